@@ -1,0 +1,7 @@
+pub mod Rising
+pub mod Pairs
+pub mod Order
+pub mod Accepting
+pub mod Loaded
+pub mod Kept
+pub mod MemoryLaws

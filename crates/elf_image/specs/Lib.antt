@@ -1,0 +1,5 @@
+pub mod Bytes
+pub mod Headers
+pub mod Regions
+pub mod File
+pub mod Accepted
