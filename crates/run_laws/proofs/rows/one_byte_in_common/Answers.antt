@@ -1,0 +1,16 @@
+use Rattle.std.proofs.Common.{[], refl, inl, arith}
+use Rattle.run_record.specs.declared.finished.GuestEnd.TheVariants.{AllEnded}
+use Rattle.run_laws.specs.Labels.{labels, queue}
+use Rattle.run_laws.specs.Clocks.{clocks}
+use Rattle.run_laws.specs.Faithful.{OneByOne}
+use Rattle.run_laws.specs.Scripts.{scripted}
+use Rattle.run_laws.specs.Rows.{granule_in, no_rules, shared_byte, shared_byte_scripts, usual}
+use Rattle.run_laws.proofs.RoundTests.{lawful-true}
+use Rattle.run_laws.proofs.ShowLaw.{shows}
+use Rattle.run_laws.proofs.rows.one_byte_in_common.Goals as goal
+
+pub returns : goal.returns
+unfolding labels queue clocks
+returns c =
+    shows OneByOne usual [] shared_byte_scripts shared_byte no_rules _ (omega arith) (omega arith) (omega arith)
+    (lawful-true OneByOne usual [] (scripted shared_byte_scripts) granule_in shared_byte 2 refl refl refl refl AllEnded (inl refl)) refl
