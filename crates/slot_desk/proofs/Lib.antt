@@ -1,0 +1,11 @@
+pub mod DeskLists
+pub mod HistoryClocks
+pub mod HistoryJournals
+pub mod HistoryLaw
+pub mod HistorySlots
+pub mod HistorySteps
+pub mod Holders
+pub mod InsideLaws
+pub mod JournalLaws
+pub mod KeptLaws
+pub mod SeenLaws
