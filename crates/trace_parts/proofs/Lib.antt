@@ -1,0 +1,11 @@
+pub mod ReadBack
+pub mod LockLaws
+pub mod WordLaws
+pub mod RingLaws
+pub mod HoldLaws
+pub mod MaskLaws
+pub mod SeekLaws
+pub mod SoughtLaws
+pub mod RestoreLaws
+pub mod FirstLaws
+pub mod ExampleLaws

@@ -1,0 +1,5 @@
+pub mod Spelling
+pub mod Snapshot
+pub mod Held
+pub mod Part
+pub mod Sought
