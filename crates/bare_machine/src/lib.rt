@@ -1,0 +1,23 @@
+//! The bare machine: threads that step over an executable and its memory, without a detector.
+//!
+//! It stands on the loader (`elf_image`), on instructions (`rv_decode`, `rv_exec`), on calls
+//! (`entry_calls`), on guest words (`guest_memory`) and on the types of the record. The layer above uses one clause: `step` is the
+//! bare step of its definition, for every world, with its events and the object that it uses.
+#![tactic(auto)]
+
+mod acted;
+mod calling;
+mod machine;
+mod memory;
+mod preview;
+mod stepped;
+mod thread;
+mod touch;
+
+pub use acted::Acted;
+pub use machine::Machine;
+pub use memory::Memory;
+pub use preview::Preview;
+pub use stepped::Stepped;
+pub use thread::Thread;
+pub use touch::Touched;
