@@ -1,0 +1,174 @@
+// Runs of the command over files and sinks in memory.
+mod endings;
+mod plans;
+mod refusals;
+mod reports;
+mod threads;
+
+use crate::{AssemblyError, Form, assemble};
+use std::alloc::{AllocError, Global};
+use std::process::Abort;
+use std::test::Fail;
+use tool_ports::{MemoryFiles, MemorySink};
+use tsanrun_cli::{Ended, tool_step};
+
+/// What a call of the command leaves.
+#[derive(Drop)]
+struct Answer {
+    out: MemorySink,
+    err: MemorySink,
+    ended: Ended,
+}
+
+/// The files of a call, and what fails in it.
+#[derive(Clone, Copy)]
+struct Ports<'a> {
+    /// The bytes of the file `p`.
+    file: &'a [u8],
+    /// The bytes of the file `rules`.
+    rules: &'a str,
+    /// The numbers of the reads that fail.
+    failing_reads: &'a [u32],
+    /// The numbers of the puts on `err` that fail, and how many bytes they take.
+    failing_puts: &'a [(u32, u32)],
+}
+
+/// How many bytes each sink takes.
+const ROOM: usize = 0x10000;
+
+/// Calls the command over the file `p`, and nothing that fails.
+fn call(alloc: Global, words: &[&str], file: &[u8]) -> Result<Answer, Fail> {
+    let ports = Ports {
+        file,
+        rules: "",
+        failing_reads: &[],
+        failing_puts: &[],
+    };
+    call_over(alloc, words, &ports)
+}
+
+fn call_over(alloc: Global, words: &[&str], ports: &Ports<'_>) -> Result<Answer, Fail> {
+    let mut given = Vec::new(alloc);
+    for word in words {
+        given.push(String::from_str(alloc, word)?)?;
+    }
+    let mut files = MemoryFiles::new(alloc, ports.failing_reads)?;
+    files.add("p", ports.file)?;
+    files.add("rules", ports.rules.as_bytes())?;
+    let mut out = MemorySink::new(alloc, ROOM, &[])?;
+    let mut err = MemorySink::new(alloc, ROOM, ports.failing_puts)?;
+    let ended = tool_step(alloc, &given, &mut files, &mut out, &mut err);
+    Ok(Answer { out, err, ended })
+}
+
+/// Looks at both sinks and at the status.
+fn check<R: Abort>(
+    rt: &R,
+    alloc: Global,
+    answer: &Answer,
+    out: &[u8],
+    err: &str,
+    status: u8,
+) -> Result<(), Fail> {
+    let told = String::from_utf8_lossy(alloc, answer.err.bytes())?;
+    assert_eq!(rt; told.as_str(), err);
+    assert_eq!(rt; answer.out.bytes(), out, "beside {err}");
+    assert_eq!(rt; answer.ended.status, status, "beside {err}");
+    Ok(())
+}
+
+/// A frame of a stack: its name, file and line, and its place.
+type Frame<'a> = (&'a str, u64);
+
+/// How a frame without a name, a file and a line is told.
+const UNKNOWN: &str = "?? ??:0";
+
+/// A report: its two accesses as they are told, and their stacks. A stack that was lost is empty.
+#[derive(Clone, Copy)]
+struct Race<'a> {
+    mine: &'a str,
+    stack: &'a [Frame<'a>],
+    previous: &'a str,
+    previous_stack: &'a [Frame<'a>],
+}
+
+/// A worked row: a program, and what `step p` with some options writes and answers.
+#[derive(Clone, Copy)]
+struct Row<'a> {
+    program: &'a str,
+    form: Form<'a>,
+    options: &'a [&'a str],
+    rules: &'a str,
+    out: &'a [u8],
+    races: &'a [Race<'a>],
+    /// How many reports there are, how many were suppressed and how many were equal to another, how
+    /// many threads there were, and the run's end.
+    summary: (u32, u32, u32, u32, &'a str),
+    status: u8,
+}
+
+/// A row of which a table says what differs.
+const ROW: Row<'static> = Row {
+    program: "",
+    form: Form::PLAIN,
+    options: &[],
+    rules: "",
+    out: b"",
+    races: &[],
+    summary: (0, 0, 0, 1, "all ended"),
+    status: 0,
+};
+
+const BAR: &str = "==================\n";
+
+fn add_stack(text: &mut String, stack: &[Frame<'_>]) -> Result<(), AllocError> {
+    if stack.is_empty() {
+        return text.push_str("    [failed to restore the stack]\n");
+    }
+    for (number, (name, place)) in stack.iter().enumerate() {
+        write!(text, "    #{number} {name} (0x{place:016x})\n")?;
+    }
+    Ok(())
+}
+
+fn add_race(text: &mut String, race: &Race<'_>) -> Result<(), AllocError> {
+    let mine = race.mine;
+    let previous = race.previous;
+    write!(
+        text,
+        "{BAR}WARNING: ThreadSanitizer: data race\n  {mine}:\n"
+    )?;
+    add_stack(text, race.stack)?;
+    write!(text, "  Previous {previous}:\n")?;
+    add_stack(text, race.previous_stack)?;
+    text.push_str(BAR)
+}
+
+/// What a row has on `err`.
+fn told(alloc: Global, row: &Row<'_>) -> Result<String, AllocError> {
+    let mut text = String::new(alloc);
+    for race in row.races {
+        add_race(&mut text, race)?;
+    }
+    let (reports, suppressed, equal, threads, end) = row.summary;
+    write!(
+        text,
+        "tsanrun: {reports} reports, {suppressed} suppressed, {equal} equal, {threads} threads, {end}\n"
+    )?;
+    Ok(text)
+}
+
+fn check_row<R: Abort>(rt: &R, alloc: Global, row: &Row<'_>) -> Result<(), Fail> {
+    let file = assemble(alloc, row.program, &row.form)?;
+    let mut words = vec![in alloc; "step", "p"]?;
+    words.extend_from_slice(row.options)?;
+    let ports = Ports {
+        file: &file,
+        rules: row.rules,
+        failing_reads: &[],
+        failing_puts: &[],
+    };
+    let answer = call_over(alloc, &words, &ports)?;
+    let told = told(alloc, row)?;
+    check(rt, alloc, &answer, row.out, told.as_str(), row.status)
+}
