@@ -1,0 +1,11 @@
+pub mod Carry
+pub mod Growth
+pub mod Shape
+pub mod ButNotes
+pub mod TurnNotes
+pub mod NoteEntry
+pub mod TurnLaw
+pub mod PushLaw
+pub mod GroupedLaw
+pub mod AlikeLaw
+pub mod WholeLaw
