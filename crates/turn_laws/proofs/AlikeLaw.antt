@@ -1,5 +1,5 @@
 -- What stands after moments depends on their items and checks alone.
-use Rattle.std.proofs.Common.{◌≡◌, ℕ, zero, suc, ◌+◌, ◌-◌, ◌<◌, ◌≤◌, List, [], ◌∷◌, ◌++◌, append_assoc, length, take, refl, sym, ap, ap₂, ◌∙◌, arith}
+use Rattle.std.proofs.Common.{◌≡◌, ℕ, zero, suc, ◌+◌, ◌-◌, ◌<◌, ◌≤◌, List, [], ◌∷◌, ◌++◌, append_assoc, length, refl, sym, ap, ap₂, ◌∙◌, arith}
 use Rattle.std.specs.Prelude.{fold, flat_map, filter_map, replicate}
 use Rattle.std.specs.List.{cons_option}
 use Rattle.std.proofs.Math.Seq.{take-length}
@@ -8,7 +8,7 @@ use Rattle.run_record.specs.declared.entry.DeskNote.TheVariants.{Nothing, Attach
 use Rattle.run_record.specs.declared.entry.Check.{Check}
 use Rattle.run_record.specs.declared.event.Event.{Event}
 use Rattle.run_record.specs.declared.entry.Entry.{Entry}
-use Rattle.run_laws.specs.Moments.{Item, Does, Notes, NewEra, Past, Moment, moment_at, items, moments, moments_in, last_era, era_moments}
+use Rattle.run_laws.specs.Moments.{Item, Does, Notes, NewEra, Past, Moment, items, moments, moments_in, last_era, era_moments}
 use Rattle.run_laws.specs.Labels.{labels}
 use Rattle.run_laws.specs.Clocks.{clocks}
 use Rattle.run_laws.specs.Labels.{queue}
@@ -17,7 +17,7 @@ use Rattle.run_laws.specs.Stacks.{event_by, frames_after, locks_after}
 use Rattle.run_laws.specs.Loads.{cell_after}
 use Rattle.run_laws.specs.Present.{labels_now, queue_now, clocks_now, trace_now, frames_now, locks_now, cell_now}
 use Rattle.run_laws.proofs.PresentLaw.{labels_agree, clocks_agree, queue_agree}
-use Rattle.turn_laws.specs.Going.{IsAlike, AreAlike, era_moment}
+use Rattle.turn_laws.specs.Going.{AreAlike, era_moment}
 
 same_length : (h k : List Moment) → AreAlike h k → length h ≡ length k
 same_length [] [] a = refl

@@ -1,21 +1,20 @@
 -- A history grows by one entry and stays lawful, but for its notes.
-use Rattle.std.proofs.Common.{◌≡◌, ◌≢◌, ℕ, zero, suc, ◌+◌, ◌-◌, ◌<◌, ◌≤◌, true, Option, Some, None, List, [], ◌∷◌, ◌++◌, length, length-append, refl, sym, ap, subst, ◌∙◌, arith, ◌⊎◌, inl, inr, zero-add}
-use Rattle.std.specs.Prelude.{All, AllPairs, Contains, slice_get, slice_index_or}
+use Rattle.std.proofs.Common.{◌≡◌, ◌≢◌, ℕ, ◌-◌, ◌<◌, ◌≤◌, true, Option, None, List, [], ◌∷◌, ◌++◌, length, length-append, refl, sym, ap, subst, ◌∙◌, arith, ◌⊎◌, inl, inr}
+use Rattle.std.specs.Prelude.{All, AllPairs, Contains}
 use Rattle.std.proofs.Math.ListN.{get_or-append}
 use Rattle.std.proofs.lemmas.Bool.{cases_lt, cases_eq}
 use Rattle.std.proofs.lemmas.List.{get_or_push}
 use Rattle.std.proofs.lemmas.List.Elements.{All-nil, All-cons, All-append}
 use Rattle.std.proofs.lemmas.Option.{slice_get_within}
 use Rattle.run_record.specs.declared.event.Event.{Event}
-use Rattle.run_record.specs.declared.entry.DeskNote.{DeskNote}
 use Rattle.run_record.specs.declared.entry.Check.{Check}
 use Rattle.run_record.specs.declared.entry.Entry.{Entry}
 use Rattle.run_record.specs.declared.limits.Limits.{Limits}
-use Rattle.run_laws.specs.Moments.{Item, Does, Notes, IsBy, Moment, moment_at, items, moments, moments_in, last_era, era_moments, entry_moments, RoundsNeverFall, ErasNeverFall}
+use Rattle.run_laws.specs.Moments.{Does, Notes, IsBy, Moment, moment_at, items, moments, moments_in, last_era, era_moments, entry_moments, RoundsNeverFall, ErasNeverFall}
 use Rattle.run_laws.specs.Labels.{label_of}
 use Rattle.run_laws.specs.Accesses.{access_of}
-use Rattle.run_laws.specs.Checks.{AreChecks, AreAllChecks, AllStoreRightly, StoresRightly, IsGrouped}
-use Rattle.run_laws.specs.Loads.{AllLoadLast, cell_before}
+use Rattle.run_laws.specs.Checks.{AreChecks, AreAllChecks, AllStoreRightly, IsGrouped}
+use Rattle.run_laws.specs.Loads.{AllLoadLast}
 use Rattle.run_laws.specs.Faithful.{Bare, state_after, has_needy, needs_slot, OneByOne, IsFaithful}
 use Rattle.run_laws.specs.Rounds.{NeedsLabel}
 use Rattle.run_laws.specs.Present.{label_now}
@@ -23,7 +22,7 @@ use Rattle.run_laws.proofs.EraLaw.{era_of_entry}
 use Rattle.run_laws.proofs.MomentsLaw.{moments-push}
 use Rattle.run_laws.proofs.PresentLaw.{cell_stay}
 use Rattle.turn_laws.specs.Going.{AreRightFrom}
-use Rattle.turn_laws.proofs.Carry.{past, at_stay, at_end, items_stay, label_stay, checks_stay}
+use Rattle.turn_laws.proofs.Carry.{at_stay, label_stay, checks_stay}
 use Rattle.turn_laws.proofs.Shape.{IsQuiet, quiet_news, entry_or_past, at_right}
 use Rattle.turn_laws.proofs.Growth.{MayFollow, faithful-push, needs_stay, needs_last}
 
@@ -60,9 +59,9 @@ old_entry entries p n t b =
     omega arith
 
 module _ {S : Type 0} (limits : Limits) (bare : Bare S) (granule_of : ℕ → Option ℕ) (xs : List Entry) (x : Entry) (old : IsLawfulButNotes limits bare granule_of xs) (follows : MayFollow bare xs x)
-  (needs : has_needy bare (state_after bare xs) x ≡ true → label_now limits.epochs (moments_in x.round x.era xs) x.tid ≢ None) (grouped : IsGrouped x)
-  (right : AreRightFrom limits.epochs granule_of (moments_in x.round x.era xs ++ entry_moments (length xs) x) (length (moments_in x.round x.era xs)))
-  (rounds : All (λ (e : Entry). e.round ≤ x.round) xs) (eras : All (λ (e : Entry). e.era ≤ x.era) xs) where
+    (needs : has_needy bare (state_after bare xs) x ≡ true → label_now limits.epochs (moments_in x.round x.era xs) x.tid ≢ None) (grouped : IsGrouped x)
+    (right : AreRightFrom limits.epochs granule_of (moments_in x.round x.era xs ++ entry_moments (length xs) x) (length (moments_in x.round x.era xs)))
+    (rounds : All (λ (e : Entry). e.round ≤ x.round) xs) (eras : All (λ (e : Entry). e.era ≤ x.era) xs) where
   abbrev h : List Moment
   h = moments_in x.round x.era xs
 

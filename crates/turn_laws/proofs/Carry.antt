@@ -1,6 +1,5 @@
 -- What was told of a position of some moments stays so when more follow, and what is told there then was so before.
-use Rattle.std.proofs.Common.{◌≡◌, ℕ, ◌<◌, ◌≤◌, Bool, true, Option, Some, None, List, [], ◌∷◌, ◌++◌, length, refl, sym, ap, subst, ◌∙◌, arith, ◌⊎◌, inl, inr}
-use Rattle.std.specs.Prelude.{Contains, slice_get}
+use Rattle.std.proofs.Common.{◌≡◌, ℕ, ◌<◌, ◌≤◌, Bool, true, Option, Some, None, List, [], ◌∷◌, ◌++◌, length, refl, sym, ap, subst, ◌∙◌, arith, inl, inr}
 use Rattle.std.specs.List.{AllZip}
 use Rattle.std.proofs.Math.ListN.{get_or-append, get_or-eq_default}
 use Rattle.std.proofs.lemmas.Bool.{cases_lt}
@@ -9,8 +8,8 @@ use Rattle.run_record.specs.declared.entry.DeskNote.{DeskNote}
 use Rattle.run_record.specs.declared.entry.Check.{Check}
 use Rattle.run_record.specs.declared.entry.Label.{Label}
 use Rattle.run_record.specs.declared.limits.Limits.{Limits}
-use Rattle.run_laws.specs.Moments.{Item, Does, Notes, NewEra, Past, Moment, moment_at, items}
-use Rattle.run_laws.specs.Labels.{Labels, label_of}
+use Rattle.run_laws.specs.Moments.{Does, Notes, Past, Moment, moment_at, items}
+use Rattle.run_laws.specs.Labels.{label_of}
 use Rattle.run_laws.specs.DeskNotes.{IsNextEntry, IsRightAttach, Spends}
 use Rattle.run_laws.specs.Accesses.{Access, parts_of}
 use Rattle.run_laws.specs.Checks.{ChecksPart, AreChecks}

@@ -12,7 +12,7 @@ use Rattle.run_laws.specs.Moments.{checks_at}
 use Rattle.run_laws.specs.Checks.{IsGrouped}
 use Rattle.turn_laws.specs.Going.{with_event, AreOfEvents}
 
-up_from-push : (k n : ℕ) → up_from k (suc n) ≡ up_from k n ++ (k + n) ∷ []
+pub up_from-push : (k n : ℕ) → up_from k (suc n) ≡ up_from k n ++ (k + n) ∷ []
 up_from-push k zero = let z : k ≡ k + 0 = omega arith in ap (λ x. x ∷ []) z
 up_from-push k (suc n) = let z : suc k + n ≡ k + suc n = omega arith in ap (λ (xs : List ℕ). k ∷ xs) (up_from-push (suc k) n ∙ ap (λ x. up_from (suc k) n ++ x ∷ []) z)
 

@@ -1,16 +1,14 @@
 -- A history grows by one entry: what the bare machine does is told on, and what needs a slot stays.
-use Rattle.std.proofs.Common.{◌≡◌, ◌≢◌, ℕ, zero, suc, ◌+◌, ◌-◌, ◌<◌, ◌≤◌, Bool, true, false, ◌==◌, Option, Some, None, List, [], ◌∷◌, ◌++◌, length, take, length-append, refl, sym, ap, subst, ◌∙◌, arith, ◌⊎◌, inl, inr}
-use Rattle.std.specs.Prelude.{All, AllPairs, slice_get, slice_index_or, fold}
+use Rattle.std.proofs.Common.{◌≡◌, ◌≢◌, ℕ, zero, suc, ◌+◌, ◌<◌, ◌≤◌, true, false, Option, Some, None, List, [], ◌∷◌, ◌++◌, length, length-append, refl, sym, ap, subst, ◌∙◌, arith, ◌⊎◌, inl, inr}
+use Rattle.std.specs.Prelude.{slice_get, slice_index_or}
 use Rattle.std.specs.Option.{option_map_or}
 use Rattle.std.proofs.Math.Seq.{take-length, take-append-le}
-use Rattle.std.proofs.Math.ListN.{get_or-append}
 use Rattle.std.proofs.lemmas.Bool.{cases_lt, cases_eq}
-use Rattle.std.proofs.lemmas.List.{get_or_push}
 use Rattle.std.proofs.lemmas.List.Sums.{fold-append}
 use Rattle.std.proofs.lemmas.Option.{slice_get_within, slice_get-get_or}
 use Rattle.run_record.specs.declared.entry.DeskNote.TheVariants.{Nothing}
 use Rattle.run_record.specs.declared.entry.Entry.{Entry}
-use Rattle.run_laws.specs.Faithful.{Bare, after, state_after, state_before, object_of, has_needy, needs_slot, IsMade, IsOneTurn, EndsItsPart, Precedes, OneByOne, IsFaithful}
+use Rattle.run_laws.specs.Faithful.{Bare, after, state_after, state_before, object_of, has_needy, needs_slot, IsMade, IsOneTurn, EndsItsPart, OneByOne, IsFaithful}
 
 -- the entry at a place of entries that one more follows
 pub get_stay : (xs ys : List Entry) (i : ℕ) → i < length xs → slice_get (xs ++ ys) i ≡ slice_get xs i
@@ -130,9 +128,9 @@ module _ {S : Type 0} (bare : Bare S) where
     pub faithful-push : IsFaithful OneByOne bare (xs ++ x ∷ [])
     faithful-push = record {
       ordered = λ i j d l m.
-        let a = stamp_at i (slice_index_or (xs ++ x ∷ []) i d) (slice_get-get_or (xs ++ x ∷ []) i d (omega arith)) in
-        let b = stamp_at j (slice_index_or (xs ++ x ∷ []) j d) (slice_get-get_or (xs ++ x ∷ []) j d m) in
-        inl (omega arith);
+          let a = stamp_at i (slice_index_or (xs ++ x ∷ []) i d) (slice_get-get_or (xs ++ x ∷ []) i d (omega arith)) in
+          let b = stamp_at j (slice_index_or (xs ++ x ∷ []) j d) (slice_get-get_or (xs ++ x ∷ []) j d m) in
+          inl (omega arith);
       made = made_at;
       turns = turn_at;
       stamped = stamp_at;

@@ -9,3 +9,4 @@ pub mod PushLaw
 pub mod GroupedLaw
 pub mod AlikeLaw
 pub mod WholeLaw
+pub mod StepsLaw

@@ -1,19 +1,16 @@
 -- An entry of a note alone may follow, and is right.
-use Rattle.std.proofs.Common.{◌≡◌, ◌≢◌, ℕ, zero, suc, ◌+◌, ◌-◌, ◌<◌, ◌≤◌, true, Option, Some, None, List, [], ◌∷◌, ◌++◌, length, length-append, refl, sym, ap, subst, ◌∙◌, arith}
-use Rattle.std.specs.Prelude.{Contains, slice_get}
-use Rattle.std.proofs.lemmas.Bool.{cases_eq}
+use Rattle.std.proofs.Common.{◌≡◌, ◌≢◌, ℕ, zero, suc, ◌+◌, ◌-◌, ◌≤◌, Option, List, [], ◌++◌, length, refl, sym, ap, ◌∙◌, arith}
+use Rattle.std.specs.Prelude.{Contains}
 use Rattle.run_record.specs.declared.event.Event.{Event}
 use Rattle.run_record.specs.declared.entry.DeskNote.{DeskNote}
 use Rattle.run_record.specs.declared.entry.DeskNote.TheVariants.{Nothing}
 use Rattle.run_record.specs.declared.entry.Check.{Check}
 use Rattle.run_record.specs.declared.entry.Entry.{Entry}
-use Rattle.run_record.specs.declared.limits.Limits.{Limits}
-use Rattle.run_laws.specs.Moments.{Does, Moment, moment_at, moments_in, entry_moments, RoundsNeverFall}
+use Rattle.run_laws.specs.Moments.{Does, Moment, moment_at, entry_moments}
 use Rattle.run_laws.specs.Checks.{IsGrouped}
-use Rattle.run_laws.specs.Faithful.{Bare, state_after}
+use Rattle.run_laws.specs.Faithful.{Bare}
 use Rattle.turn_laws.specs.Going.{AreRightFrom}
 use Rattle.turn_laws.specs.Turns.{Turn, note_entry}
-use Rattle.turn_laws.proofs.Carry.{past, at_end}
 use Rattle.turn_laws.proofs.Shape.{at_right}
 use Rattle.turn_laws.proofs.Growth.{MayFollow}
 

@@ -1,6 +1,6 @@
 -- Checks that stand rightly from a position on, and which label was spent there, after one more moment.
-use Rattle.std.proofs.Common.{◌≡◌, ◌≢◌, ℕ, zero, suc, ◌<◌, ◌≤◌, ◌%◌, ◌==◌, ◌&&◌, if◌then◌else◌, Bool, true, false, Option, Some, None, List, [], ◌∷◌, ◌++◌, length, length-append, refl, sym, ap, subst, ◌∙◌, arith, ◌⊎◌, inl, inr, eqb-true, eq-eqb}
-use Rattle.std.specs.Prelude.{All, Contains, slice_get, slice_index_or}
+use Rattle.std.proofs.Common.{◌≡◌, ℕ, ◌<◌, ◌≤◌, ◌==◌, ◌&&◌, if◌then◌else◌, true, false, Option, Some, None, List, [], ◌∷◌, ◌++◌, length, length-append, refl, sym, ap, subst, ◌∙◌, arith, ◌⊎◌, inl, inr, eqb-true, eq-eqb}
+use Rattle.std.specs.Prelude.{All, Contains}
 use Rattle.std.specs.List.{AllZip}
 use Rattle.std.proofs.Math.Seq.{get_or-append_seam}
 use Rattle.std.proofs.lemmas.Bool.{cases_lt, cases_Bool, and_parts}
@@ -9,7 +9,7 @@ use Rattle.run_record.specs.declared.event.Event.{Event}
 use Rattle.run_record.specs.declared.entry.Check.{Check}
 use Rattle.run_record.specs.declared.entry.Label.{Label}
 use Rattle.run_record.specs.declared.limits.Limits.{Limits}
-use Rattle.run_laws.specs.Moments.{Item, Does, Moment, moment_at, items}
+use Rattle.run_laws.specs.Moments.{Does, Moment, moment_at, items}
 use Rattle.run_laws.specs.Labels.{label_of, raises}
 use Rattle.run_laws.specs.DeskNotes.{Spends}
 use Rattle.run_laws.specs.Accesses.{Access, access_of, parts_of}
@@ -41,7 +41,7 @@ right-none g granule_of h = record {
     none n c l b = let y = b.1 in let z = ap (λ (m : Moment). length m.checks) (at_end h n l) in omega arith
 
 module _ (g : ℕ) (granule_of : ℕ → Option ℕ) (h : List Moment) (from : ℕ) (m : Moment) (right : AreRightFrom g granule_of h from) (late : from ≤ length h)
-  (checks : (t : ℕ) (e : Event) → m.item ≡ Does t e → AreChecksNow g granule_of h t (access_of e) m.checks) (stores : All StoresRightly m.checks) (loads : All (LoadsNow h) m.checks) where
+    (checks : (t : ℕ) (e : Event) → m.item ≡ Does t e → AreChecksNow g granule_of h t (access_of e) m.checks) (stores : All StoresRightly m.checks) (loads : All (LoadsNow h) m.checks) where
   checks_there : (t : ℕ) (a : Option Access) → AreChecksNow g granule_of h t a m.checks → AreChecks g granule_of (h ++ m ∷ []) (length h) t a
   checks_there t None c = ap (λ (m : Moment). m.checks) (at_seam h m) ∙ c
   checks_there t (Some a) c =
@@ -90,10 +90,10 @@ pub right-event : (g : ℕ) (granule_of : ℕ → Option ℕ) (h : List Moment) 
 right-event g granule_of h from t e m right late made now =
     right-push g granule_of h from m right late
     (λ u f q.
-      let y = sym made ∙ q in
-      let thread : t ≡ u = cc in
-      let event : e ≡ f = cc in
-      subst (λ x. AreChecksNow g granule_of h x (access_of f) m.checks) thread (subst (λ (x : Event). AreChecksNow g granule_of h t (access_of x) m.checks) event now.of_access))
+    let y = sym made ∙ q in
+    let thread : t ≡ u = cc in
+    let event : e ≡ f = cc in
+    subst (λ x. AreChecksNow g granule_of h x (access_of f) m.checks) thread (subst (λ (x : Event). AreChecksNow g granule_of h t (access_of x) m.checks) event now.of_access))
     now.stores now.loads
 
 pub right-quiet : (g : ℕ) (granule_of : ℕ → Option ℕ) (h : List Moment) (from : ℕ) (m : Moment) → AreRightFrom g granule_of h from → from ≤ length h → IsNoEvent m → m.checks ≡ [] → AreRightFrom g granule_of (h ++ m ∷ []) from
@@ -160,10 +160,10 @@ spent_stays limits h from t m spent had nothing = record {
 pub spent-after : (limits : Limits) (h : List Moment) (from t : ℕ) (e : Event) (m : Moment) (l : Label) → HasSpent limits h from t (Some l) → m.item ≡ Does t e → label_now limits.epochs h t ≡ None → HasSpent limits (h ++ m ∷ []) from t (Some l)
 spent-after limits h from t e m l had made none =
     spent_stays limits h from t m (Some l) had (λ u x f q r.
-      let y = sym made ∙ q in
-      let thread : t ≡ u = cc in
-      let z = sym none ∙ (ap (label_now limits.epochs h) thread ∙ r) in
-      absurd cc)
+    let y = sym made ∙ q in
+    let thread : t ≡ u = cc in
+    let z = sym none ∙ (ap (label_now limits.epochs h) thread ∙ r) in
+    absurd cc)
 
 pub spent-quiet : (limits : Limits) (h : List Moment) (from t : ℕ) (m : Moment) (spent : Option Label) → HasSpent limits h from t spent → IsNoEvent m → HasSpent limits (h ++ m ∷ []) from t spent
 spent-quiet limits h from t m spent had none = spent_stays limits h from t m spent had (λ u l e q r. none u e q)

@@ -1,6 +1,6 @@
 -- The moments of one more entry, and which moments neither begin an entry nor make an event.
 use Rattle.std.proofs.Common.{◌≡◌, ℕ, zero, suc, ◌+◌, ◌-◌, ◌<◌, ◌≤◌, Option, Some, None, List, [], ◌∷◌, ◌++◌, length, map, length-append, refl, sym, ap, subst, ◌∙◌, arith, ◌⊎◌, inl, inr}
-use Rattle.std.specs.Prelude.{replicate, fold, option_map, option_to_list}
+use Rattle.std.specs.Prelude.{replicate, option_map, option_to_list}
 use Rattle.std.specs.List.{enumerate_from}
 use Rattle.std.proofs.lemmas.Bool.{cases_lt}
 use Rattle.std.proofs.lemmas.List.{append-nil, get_or-replicate, length-replicate}
@@ -10,9 +10,9 @@ use Rattle.run_record.specs.declared.event.Event.{Event}
 use Rattle.run_record.specs.declared.entry.DeskNote.{DeskNote}
 use Rattle.run_record.specs.declared.entry.Label.{Label}
 use Rattle.run_record.specs.declared.entry.Entry.{Entry}
-use Rattle.run_laws.specs.Moments.{Item, Does, Notes, NewEra, Past, Moment, moment_at, moments, moments_in, last_era, era_moments, entry_moments, event_moment}
+use Rattle.run_laws.specs.Moments.{Does, Notes, NewEra, Moment, moment_at, moments, moments_in, last_era, era_moments, entry_moments, event_moment}
 use Rattle.run_laws.proofs.MomentsLaw.{moments-push}
-use Rattle.turn_laws.proofs.Carry.{past, at_stay, at_end}
+use Rattle.turn_laws.proofs.Carry.{past, at_end}
 
 pub moments_in-push : (xs : List Entry) (x : Entry) → moments_in x.round x.era (xs ++ x ∷ []) ≡ moments_in x.round x.era xs ++ entry_moments (length xs) x
 moments_in-push xs x =

@@ -1,11 +1,9 @@
 -- A history that is lawful so far stays so with one more turn.
-use Rattle.std.proofs.Common.{◌≡◌, ◌≢◌, ℕ, zero, suc, ◌+◌, ◌-◌, ◌<◌, ◌≤◌, Bool, true, false, Option, Some, None, List, [], ◌∷◌, ◌++◌, append_assoc, length, length-append, refl, sym, ap, subst, ◌∙◌, arith, ◌⊎◌, inl, inr}
+use Rattle.std.proofs.Common.{◌≡◌, ◌≢◌, ℕ, ◌+◌, ◌<◌, ◌≤◌, true, Option, Some, None, List, [], ◌∷◌, ◌++◌, append_assoc, length, length-append, refl, sym, ap, subst, ◌∙◌, arith, inl, inr}
 use Rattle.std.specs.Prelude.{All, option_map, option_to_list, slice_get}
 use Rattle.std.proofs.lemmas.List.{append-nil}
 use Rattle.std.proofs.lemmas.List.Elements.{All-nil, All-cons, All-append}
-use Rattle.run_record.specs.declared.event.Event.{Event}
-use Rattle.run_record.specs.declared.entry.DeskNote.{DeskNote}
-use Rattle.run_record.specs.declared.entry.DeskNote.TheVariants.{Nothing, Attach, Leave}
+use Rattle.run_record.specs.declared.entry.DeskNote.TheVariants.{Attach, Leave}
 use Rattle.run_record.specs.declared.entry.Label.{Label}
 use Rattle.run_record.specs.declared.entry.Entry.{Entry}
 use Rattle.run_record.specs.declared.limits.Limits.{Limits}
@@ -15,13 +13,12 @@ use Rattle.run_laws.specs.Faithful.{Bare, state_after, state_before, object_of, 
 use Rattle.run_laws.specs.Present.{label_now}
 use Rattle.run_laws.proofs.MomentsLaw.{moments-push}
 use Rattle.turn_laws.specs.SoFar.{IsLawfulSoFar}
-use Rattle.turn_laws.specs.Going.{AreRightFrom, HasSpent}
-use Rattle.turn_laws.specs.Turns.{Turn, note_entry, attach_entry, leave_entry, instructions_entry, attach_entries, leave_entries, entries_before, main_entry, entries_of, moments_before, moments_up_to, IsTurn}
-use Rattle.turn_laws.proofs.Carry.{does_inside}
+use Rattle.turn_laws.specs.Going.{HasSpent}
+use Rattle.turn_laws.specs.Turns.{Turn, attach_entry, leave_entry, instructions_entry, attach_entries, leave_entries, entries_before, main_entry, entries_of, note_moment, IsTurn}
 use Rattle.turn_laws.proofs.Growth.{MayFollow, state_stay, state_quiet, needs_grow, needs_last, old_or_last}
 use Rattle.turn_laws.proofs.Shape.{moments_in-push, quiet_news}
 use Rattle.turn_laws.proofs.ButNotes.{IsLawfulButNotes, but_notes-push}
-use Rattle.turn_laws.proofs.TurnNotes.{note_moment, attach_moments, leave_moments, TakesNow, notes_stand, labelled_then}
+use Rattle.turn_laws.proofs.TurnNotes.{taken_moments, left_moments, TakesNow, notes_stand, labelled_then}
 use Rattle.turn_laws.proofs.NoteEntry.{note_right, note_grouped, note_follows}
 
 -- the entries with the one that takes the label
@@ -29,16 +26,16 @@ abbrev with_attach : List Entry → Turn → Option Label → List Entry
 with_attach entries turn o = entries ++ option_to_list (option_map (attach_entry (length entries + 1) turn) o)
 
 -- and their moments before the next entry
-pub before_shape : (entries : List Entry) (turn : Turn) (o : Option Label) → moments_in turn.round turn.era (with_attach entries turn o) ≡ moments_in turn.round turn.era entries ++ attach_moments (length entries) turn o
+pub before_shape : (entries : List Entry) (turn : Turn) (o : Option Label) → moments_in turn.round turn.era (with_attach entries turn o) ≡ moments_in turn.round turn.era entries ++ taken_moments (length entries) turn o
 before_shape entries turn None = rw (append-nil entries) (sym (append-nil (moments_in turn.round turn.era entries)))
 before_shape entries turn (Some l) = moments_in-push entries (attach_entry (length entries + 1) turn l)
 
 -- the entry that leaves the label, after n entries
-abbrev leaving : ℕ → Turn → Option Label → List Entry
+abbrev pub leaving : ℕ → Turn → Option Label → List Entry
 leaving n turn o = option_to_list (option_map (leave_entry (n + 1) turn) o)
 
 -- the moments of some entries, an entry of the turn, and one that leaves a label
-whole_shape : (xs : List Entry) (turn : Turn) (x : Entry) (n : ℕ) (o : Option Label) → x.round ≡ turn.round → x.era ≡ turn.era → moments ((xs ++ x ∷ []) ++ leaving n turn o) ≡ (moments_in turn.round turn.era xs ++ entry_moments (length xs) x) ++ leave_moments (length (xs ++ x ∷ [])) turn o
+whole_shape : (xs : List Entry) (turn : Turn) (x : Entry) (n : ℕ) (o : Option Label) → x.round ≡ turn.round → x.era ≡ turn.era → moments ((xs ++ x ∷ []) ++ leaving n turn o) ≡ (moments_in turn.round turn.era xs ++ entry_moments (length xs) x) ++ left_moments (length (xs ++ x ∷ [])) turn o
 whole_shape xs turn x n None r e =
     ap moments (append-nil (xs ++ x ∷ []))
     ∙ (moments-push xs x
@@ -55,7 +52,7 @@ whole_shape xs turn x n (Some l) r e =
     ∙ ap (λ e. moments_in turn.round e xs ++ entry_moments (length xs) x) e))))
 
 -- the entries of the turn after those that stand
-new_is : (entries : List Entry) (turn : Turn) → entries ++ entries_of (length entries) turn ≡ (entries_before entries turn ++ main_entry entries turn ∷ []) ++ leaving (length (entries_before entries turn) + 1) turn turn.left
+pub new_is : (entries : List Entry) (turn : Turn) → entries ++ entries_of (length entries) turn ≡ (entries_before entries turn ++ main_entry entries turn ∷ []) ++ leaving (length (entries_before entries turn) + 1) turn turn.left
 new_is entries turn =
     let z : length entries + length (attach_entries (length entries) turn) ≡ length (entries_before entries turn) = sym (length-append entries (attach_entries (length entries) turn)) in
     ap (λ k. entries ++ (attach_entries (length entries) turn ++ (instructions_entry (k + 1) turn ∷ leave_entries (k + 1) turn))) z
@@ -111,7 +108,7 @@ module _ {S : Type 0} (limits : Limits) (bare : Bare S) (granule_of : ℕ → Op
   takes : (l : Label) → turn.attached ≡ Some l → TakesNow limits h turn.tid l
   takes l a = let may = can.taken l a in record { unlabelled = may.unlabelled; rest = may.rest; front = may.front; new_epoch = may.new_epoch; present_era = may.present_era }
 
-  labelled : (o : Option Label) → turn.attached ≡ o → has_needy bare (state_after bare entries) main ≡ true → label_now limits.epochs (h ++ attach_moments (length entries) turn o) turn.tid ≢ None
+  labelled : (o : Option Label) → turn.attached ≡ o → has_needy bare (state_after bare entries) main ≡ true → label_now limits.epochs (h ++ taken_moments (length entries) turn o) turn.tid ≢ None
   labelled None a n = subst (λ (ms : List Moment). label_now limits.epochs ms turn.tid ≢ None) (sym (append-nil h)) (can.labelled a n)
   labelled (Some l) a n =
       labelled_then limits (needs_slot bare entries) (moments entries) (era_moments (last_era entries) (length entries) turn.round turn.era)
@@ -161,7 +158,7 @@ module _ {S : Type 0} (limits : Limits) (bare : Bare S) (granule_of : ℕ → Op
   notes : AreNotes limits (needs_slot bare new) (moments new)
   notes =
       subst (AreNotes limits (needs_slot bare new)) (sym (whole_shape before turn main (length before + 1) turn.left refl refl))
-      (subst (λ (ms : List Moment). AreNotes limits (needs_slot bare new) ((ms ++ entry_moments (length before) main) ++ leave_moments (length (before ++ main ∷ [])) turn turn.left)) (sym (before_shape entries turn turn.attached))
+      (subst (λ (ms : List Moment). AreNotes limits (needs_slot bare new) ((ms ++ entry_moments (length before) main) ++ left_moments (length (before ++ main ∷ [])) turn turn.left)) (sym (before_shape entries turn turn.attached))
       (notes_stand turn (moments entries) (era_moments (last_era entries) (length entries) turn.round turn.era) (length entries) (length before) (length (before ++ main ∷ [])) main
       (quiet_news (moments entries) (last_era entries) (length entries) turn.round turn.era) refl refl refl
       limits (needs_slot bare entries) (needs_slot bare new) grows old.notes

@@ -1,5 +1,5 @@
 -- The notes of a turn stand rightly.
-use Rattle.std.proofs.Common.{◌≡◌, ◌≢◌, ℕ, zero, suc, ◌+◌, ◌-◌, ◌<◌, ◌≤◌, if◌then◌else◌, Bool, true, false, Option, Some, None, List, [], ◌∷◌, ◌++◌, append_assoc, length, length-append, refl, sym, ap, subst, ◌∙◌, arith, ◌⊎◌, inl, inr}
+use Rattle.std.proofs.Common.{◌≡◌, ◌≢◌, ℕ, ◌+◌, ◌-◌, ◌<◌, ◌≤◌, if◌then◌else◌, Bool, true, Option, Some, None, List, [], ◌∷◌, ◌++◌, append_assoc, length, length-append, refl, sym, ap, subst, ◌∙◌, arith, inl, inr}
 use Rattle.std.specs.Prelude.{option_map, option_to_list}
 use Rattle.std.proofs.lemmas.Bool.{cases_lt, cases_eq}
 use Rattle.run_record.specs.declared.event.Event.{Event}
@@ -8,27 +8,23 @@ use Rattle.run_record.specs.declared.entry.DeskNote.TheVariants.{Nothing, Attach
 use Rattle.run_record.specs.declared.entry.Label.{Label}
 use Rattle.run_record.specs.declared.entry.Entry.{Entry}
 use Rattle.run_record.specs.declared.limits.Limits.{Limits}
-use Rattle.run_laws.specs.Moments.{Item, Does, Notes, Moment, moment_at, items, entry_moments}
-use Rattle.run_laws.specs.Labels.{Labels, can_attach, attach_labels, next_labels, labels, label_of, queue}
+use Rattle.run_laws.specs.Moments.{Does, Notes, Moment, moment_at, items, entry_moments}
+use Rattle.run_laws.specs.Labels.{Labels, can_attach, attach_labels, next_labels, labels, queue}
 use Rattle.run_laws.specs.DeskNotes.{TakesFront, IsNextEntry, IsRightAttach, Spends, AreNotes}
 use Rattle.run_laws.specs.Present.{labels_now, label_now, queue_now}
 use Rattle.run_laws.proofs.PresentLaw.{labels_stay, labels_now-push, queue_stay}
 use Rattle.run_laws.proofs.QueueLaw.{attaches}
 use Rattle.run_laws.proofs.SlotSteps.{attach_slot_here}
 use Rattle.turn_laws.specs.Going.{HasSpent}
-use Rattle.turn_laws.specs.Turns.{Turn}
-use Rattle.turn_laws.proofs.Carry.{past, at_stay, at_end, items_stay, notes_inside, does_inside, label_stay, spends_stay, spends_before, next_stay, attach_stays}
+use Rattle.turn_laws.specs.Turns.{Turn, note_moment}
+use Rattle.turn_laws.proofs.Carry.{at_stay, at_end, items_stay, notes_inside, does_inside, spends_stay, spends_before, next_stay, attach_stays}
 use Rattle.turn_laws.proofs.Shape.{IsQuiet, quiet_past, entry_or_past, at_right, at_one}
 
--- the beginning of entry i of the turn with that note
-abbrev pub note_moment : ℕ → Turn → DeskNote → Moment
-note_moment i turn note = record { entry = i; round = turn.round; item = Notes turn.tid note; checks = [] }
+abbrev pub taken_moments : ℕ → Turn → Option Label → List Moment
+taken_moments i turn o = option_to_list (option_map (λ (l : Label). note_moment i turn (Attach l)) o)
 
-abbrev pub attach_moments : ℕ → Turn → Option Label → List Moment
-attach_moments i turn o = option_to_list (option_map (λ (l : Label). note_moment i turn (Attach l)) o)
-
-abbrev pub leave_moments : ℕ → Turn → Option Label → List Moment
-leave_moments i turn o = option_to_list (option_map (λ (l : Label). note_moment i turn (Leave l)) o)
+abbrev pub left_moments : ℕ → Turn → Option Label → List Moment
+left_moments i turn o = option_to_list (option_map (λ (l : Label). note_moment i turn (Leave l)) o)
 
 -- the thread may take the label next
 pub record TakesNow (limits : Limits) (h : List Moment) (t : ℕ) (l : Label) : Type 0 where
@@ -49,33 +45,33 @@ data Where (turn : Turn) (old p q s : ℕ) (h : List Moment) (n : ℕ) : Type 0 
   Leaving : (l : Label) → turn.left ≡ Some l → n ≡ s → items h n ≡ Notes turn.tid (Leave l) → (moment_at h n).round ≡ turn.round → Where turn old p q s h n
 
 module _ (turn : Turn) (old news : List Moment) (i j k : ℕ) (main_entry : Entry) (quiet : (n : ℕ) → length old ≤ n → IsQuiet (moment_at (old ++ news) n))
-  (same_thread : main_entry.tid ≡ turn.tid) (same_round : main_entry.round ≡ turn.round) (unnoted : main_entry.note ≡ Nothing) where
+    (same_thread : main_entry.tid ≡ turn.tid) (same_round : main_entry.round ≡ turn.round) (unnoted : main_entry.note ≡ Nothing) where
   abbrev h : List Moment
   h = old ++ news
 
   abbrev h1 : List Moment
-  h1 = h ++ attach_moments i turn turn.attached
+  h1 = h ++ taken_moments i turn turn.attached
 
   abbrev h2 : List Moment
   h2 = h1 ++ entry_moments j main_entry
 
   abbrev whole : List Moment
-  whole = h2 ++ leave_moments k turn turn.left
+  whole = h2 ++ left_moments k turn turn.left
 
-  long1 : length h1 ≡ length h + length (attach_moments i turn turn.attached)
-  long1 = length-append h (attach_moments i turn turn.attached)
+  long1 : length h1 ≡ length h + length (taken_moments i turn turn.attached)
+  long1 = length-append h (taken_moments i turn turn.attached)
 
   long2 : length h2 ≡ length h1 + length (entry_moments j main_entry)
   long2 = length-append h1 (entry_moments j main_entry)
 
   at2 : (n : ℕ) → n < length h2 → moment_at whole n ≡ moment_at h2 n
-  at2 n l = at_stay h2 (leave_moments k turn turn.left) n l
+  at2 n l = at_stay h2 (left_moments k turn turn.left) n l
 
   at1 : (n : ℕ) → n < length h1 → moment_at whole n ≡ moment_at h1 n
   at1 n l = let m : n < length h2 = omega (arith, long2) in at2 n m ∙ at_stay h1 (entry_moments j main_entry) n l
 
   at0 : (n : ℕ) → n < length h → moment_at whole n ≡ moment_at h n
-  at0 n l = let m : n < length h1 = omega (arith, long1) in at1 n m ∙ at_stay h (attach_moments i turn turn.attached) n l
+  at0 n l = let m : n < length h1 = omega (arith, long1) in at1 n m ∙ at_stay h (taken_moments i turn turn.attached) n l
 
   where_is : (n : ℕ) → Where turn (length old) (length h) (length h1) (length h2) whole n
   where_is n = elim (cases_lt n (length old)) [
@@ -121,11 +117,11 @@ module _ (turn : Turn) (old news : List Moment) (i j k : ℕ) (main_entry : Entr
           Leaving o.0 o.1 o.2 (ap (λ (m : Moment). m.item) o.3) (ap (λ (m : Moment). m.round) o.3)
 
   module _ (limits : Limits) (needed more : ℕ → Bool) (grows : (i : ℕ) → needed i ≡ true → more i ≡ true) (notes : AreNotes limits needed old)
-    (taken : (l : Label) → turn.attached ≡ Some l → TakesNow limits h turn.tid l × (more j ≡ true))
-    (spent : HasSpent limits h2 (length h1) turn.tid turn.left) where
+      (taken : (l : Label) → turn.attached ≡ Some l → TakesNow limits h turn.tid l × (more j ≡ true))
+      (spent : HasSpent limits h2 (length h1) turn.tid turn.left) where
     -- what follows the old moments
     abbrev later : List Moment
-    later = news ++ (attach_moments i turn turn.attached ++ (entry_moments j main_entry ++ leave_moments k turn turn.left))
+    later = news ++ (taken_moments i turn turn.attached ++ (entry_moments j main_entry ++ left_moments k turn turn.left))
 
     whole_is : whole ≡ old ++ later
     whole_is = simp append_assoc
@@ -147,7 +143,7 @@ module _ (turn : Turn) (old news : List Moment) (i j k : ℕ) (main_entry : Entr
     at_attach : (l : Label) → turn.attached ≡ Some l → IsRightAttach limits more whole (length h) turn.tid l
     at_attach l a =
         let now = (taken l a).0 in
-        let one : length (attach_moments i turn turn.attached) ≡ 1 = ap (λ o. length (attach_moments i turn o)) a in
+        let one : length (taken_moments i turn turn.attached) ≡ 1 = ap (λ o. length (taken_moments i turn o)) a in
         let next : length h1 ≡ length h + 1 = omega (arith, long1) in
         let s = labels_at in
         record {
@@ -169,19 +165,19 @@ module _ (turn : Turn) (old news : List Moment) (i j k : ℕ) (main_entry : Entr
       where
         labels_at : labels limits.epochs (items whole) (length h) ≡ labels_now limits.epochs h
         labels_at =
-            labels_stay limits.epochs h2 (leave_moments k turn turn.left) (length h) (omega (arith, long1, long2))
+            labels_stay limits.epochs h2 (left_moments k turn turn.left) (length h) (omega (arith, long1, long2))
             ∙ (labels_stay limits.epochs h1 (entry_moments j main_entry) (length h) (omega (arith, long1))
-            ∙ labels_stay limits.epochs h (attach_moments i turn turn.attached) (length h) (omega arith))
+            ∙ labels_stay limits.epochs h (taken_moments i turn turn.attached) (length h) (omega arith))
 
         queue_at : queue limits.epochs limits.slots (items whole) (length h) ≡ queue_now limits.epochs limits.slots h
         queue_at =
-            queue_stay limits.epochs limits.slots h2 (leave_moments k turn turn.left) (length h) (omega (arith, long1, long2))
+            queue_stay limits.epochs limits.slots h2 (left_moments k turn turn.left) (length h) (omega (arith, long1, long2))
             ∙ (queue_stay limits.epochs limits.slots h1 (entry_moments j main_entry) (length h) (omega (arith, long1))
-            ∙ queue_stay limits.epochs limits.slots h (attach_moments i turn turn.attached) (length h) (omega arith))
+            ∙ queue_stay limits.epochs limits.slots h (taken_moments i turn turn.attached) (length h) (omega arith))
 
         attach_round : (l : Label) → turn.attached ≡ Some l → (moment_at whole (length h)).round ≡ turn.round
         attach_round l a =
-            let one : length (attach_moments i turn turn.attached) ≡ 1 = ap (λ o. length (attach_moments i turn o)) a in
+            let one : length (taken_moments i turn turn.attached) ≡ 1 = ap (λ o. length (taken_moments i turn o)) a in
             let m : length h < length h1 = omega (arith, long1) in
             let o = at_one h (λ (l : Label). note_moment i turn (Attach l)) turn.attached (length h) (omega arith) m in
             ap (λ (m : Moment). m.round) (at1 (length h) m ∙ o.3)
@@ -229,8 +225,8 @@ module _ (turn : Turn) (old news : List Moment) (i j k : ℕ) (main_entry : Entr
         end_at : moment_at whole (length h2) ≡ note_moment k turn (Leave l)
         end_at =
             let here : length h2 - length h2 ≡ 0 = omega arith in
-            at_right h2 (leave_moments k turn turn.left) (length h2) (omega arith)
-            ∙ (ap (moment_at (leave_moments k turn turn.left)) here ∙ ap (λ o. moment_at (leave_moments k turn o) 0) a)
+            at_right h2 (left_moments k turn turn.left) (length h2) (omega arith)
+            ∙ (ap (moment_at (left_moments k turn turn.left)) here ∙ ap (λ o. moment_at (left_moments k turn o) 0) a)
 
         none : (m : ℕ) (other : DeskNote) → n < m → m < length h2 → items whole m ≡ Notes turn.tid other → ⊥
         none m other b c w = go (where_is m)
@@ -254,7 +250,7 @@ module _ (turn : Turn) (old news : List Moment) (i j k : ℕ) (main_entry : Entr
         go (Attaching m a z b r) = absurd (let y = sym b ∙ s.made in cc)
         go (Beginning z b r) = absurd (let y = sym b ∙ s.made in cc)
         go (Acting e a b c r) =
-            let was = spent.only n t l (omega arith) (spends_before limits h2 (leave_moments k turn turn.left) n t l b s) in
+            let was = spent.only n t l (omega arith) (spends_before limits h2 (left_moments k turn turn.left) n t l b s) in
             (length h2, subst (λ x. IsNextEntry whole n x (length h2) (Leave l)) (sym was.0) (leave_next n t s.event l was.1 (omega arith) b s.made))
         go (Leaving m a z b r) = absurd (let y = sym b ∙ s.made in cc)
 
@@ -266,7 +262,7 @@ module _ (turn : Turn) (old news : List Moment) (i j k : ℕ) (main_entry : Entr
     unfolding LeftAt
     left_here l a =
         let was = spent.there l a in
-        let s = spends_stay limits h2 (leave_moments k turn turn.left) was.0 turn.tid l was.2 in
+        let s = spends_stay limits h2 (left_moments k turn turn.left) was.0 turn.tid l was.2 in
         let high = does_inside h2 was.0 turn.tid was.2.event was.2.made in
         (was.0, s, leave_next was.0 turn.tid s.event l a was.1 high s.made)
 
@@ -297,7 +293,7 @@ module _ (turn : Turn) (old news : List Moment) (i j k : ℕ) (main_entry : Entr
 
 -- with the label that it takes the thread has one
 module _ (limits : Limits) (needed : ℕ → Bool) (old news : List Moment) (quiet : (n : ℕ) → length old ≤ n → IsQuiet (moment_at (old ++ news) n)) (notes : AreNotes limits needed old) (a : Moment) (t : ℕ) (l : Label)
-  (taking : a.item ≡ Notes t (Attach l)) (now : TakesNow limits (old ++ news) t l) where
+    (taking : a.item ≡ Notes t (Attach l)) (now : TakesNow limits (old ++ news) t l) where
   takes_front : TakesFront limits.epochs limits.slots (items ((old ++ news) ++ a ∷ []))
   takes_front n u m q = elim (cases_lt n (length old)) [
     | inl o ↦

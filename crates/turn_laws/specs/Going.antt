@@ -6,7 +6,7 @@ use Rattle.run_record.specs.declared.entry.Entry.{Entry}
 use Rattle.run_record.specs.declared.entry.Check.{Check}
 use Rattle.run_record.specs.declared.entry.Label.{Label}
 use Rattle.run_record.specs.declared.limits.Limits.{Limits}
-use Rattle.run_laws.specs.Moments.{Item, Does, NewEra, Moment, moment_at, items}
+use Rattle.run_laws.specs.Moments.{Does, NewEra, Moment, moment_at, items}
 use Rattle.run_laws.specs.Labels.{raises}
 use Rattle.run_laws.specs.DeskNotes.{Spends}
 use Rattle.run_laws.specs.Accesses.{Access, access_of, Part, parts_of}

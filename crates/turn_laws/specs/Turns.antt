@@ -7,14 +7,14 @@ use Rattle.run_record.specs.declared.entry.Label.{Label}
 use Rattle.run_record.specs.declared.entry.DeskNote.{DeskNote}
 use Rattle.run_record.specs.declared.entry.DeskNote.TheVariants.{Nothing, Attach, Leave}
 use Rattle.run_record.specs.declared.limits.Limits.{Limits}
-use Rattle.run_laws.specs.Moments.{Moment, entry_moments, moments_in}
+use Rattle.run_laws.specs.Moments.{Notes, Moment, entry_moments, moments_in}
 use Rattle.run_laws.specs.Checks.{IsGrouped}
 use Rattle.run_laws.specs.Faithful.{Bare, IsMade, after, has_needy, object_of, state_after, state_before}
 use Rattle.run_laws.specs.Present.{label_now, labels_now, queue_now}
 use Rattle.turn_laws.specs.Going.{AreRightFrom, HasSpent}
 
 -- Some instructions of a thread in a round: the label that it takes before them, their events and checks, and
--- the label that they spend.
+-- the label that they spend, which it leaves.
 pub record Turn : Type 0 where
   pub round : ℕ
   pub era : ℕ
@@ -72,6 +72,32 @@ moments_before entries turn = moments_in turn.round turn.era (entries_before ent
 abbrev pub moments_up_to : List Entry → Turn → List Moment
 moments_up_to entries turn = moments_before entries turn ++ entry_moments (length (entries_before entries turn)) (main_entry entries turn)
 
+-- the beginning of entry i of the turn, with that note
+abbrev pub note_moment : ℕ → Turn → DeskNote → Moment
+note_moment i turn note = record { entry = i; round = turn.round; item = Notes turn.tid note; checks = [] }
+
+-- the moment at which the label is taken, if one is, where that entry is the i-th
+abbrev pub attach_moments : ℕ → Turn → List Moment
+attach_moments i turn = option_to_list (option_map (λ (l : Label). note_moment i turn (Attach l)) turn.attached)
+
+-- the moment at which the label is left, if one is, where that entry is the i-th
+abbrev pub leave_moments : ℕ → Turn → List Moment
+leave_moments i turn = option_to_list (option_map (λ (l : Label). note_moment i turn (Leave l)) turn.left)
+
+-- the turn with one more event and its checks
+abbrev pub turn_with_event : Turn → Event → List Check → Turn
+turn_with_event turn event checks = record turn { events = turn.events ++ event ∷ []; checks = turn.checks ++ checks }
+
+-- from state s on, the entry with its thread's next instruction
+abbrev pub with_instruction : {S : Type 0} → Bare S → S → Entry → Entry
+with_instruction bare s e = record e { steps = e.steps + 1; events = e.events ++ (bare.step (after bare s e.tid e.steps) e.tid).events }
+
+-- each earlier entry of the thread's instructions in that round ended in one that uses an object
+abbrev pub GoesOn : {S : Type 0} → Bare S → List Entry → ℕ → ℕ → Type 0
+GoesOn bare entries t round =
+    (i : ℕ) (f : Entry) → slice_get entries i ≡ Some f → f.tid ≡ t → f.round ≡ round → 0 < f.steps →
+    object_of bare (state_before bare entries i) f ≢ None
+
 -- The thread may take the label: it has none, the label is of the queue's front, one epoch after the slot's
 -- last in the present era, and one of the thread's instructions needs a slot.
 pub record MayTake {S : Type 0} (limits : Limits) (bare : Bare S) (entries : List Entry) (turn : Turn) (l : Label) : Type 0 where
@@ -91,9 +117,7 @@ pub record IsTurn {S : Type 0} (limits : Limits) (bare : Bare S) (granule_of : �
   pub made : IsMade bare (state_after bare entries) (main_entry entries turn)
   pub apart :
       (k : ℕ) → k + 1 < turn.steps → (bare.step (after bare (state_after bare entries) turn.tid k) turn.tid).object ≡ None
-  pub goes_on :
-      (i : ℕ) (f : Entry) → slice_get entries i ≡ Some f → f.tid ≡ turn.tid → f.round ≡ turn.round → 0 < f.steps →
-      object_of bare (state_before bare entries i) f ≢ None
+  pub goes_on : GoesOn bare entries turn.tid turn.round
   pub rounds_so_far : All (λ (e : Entry). e.round ≤ turn.round) entries
   pub eras_so_far : All (λ (e : Entry). e.era ≤ turn.era) entries
   pub taken : (l : Label) → turn.attached ≡ Some l → MayTake limits bare entries turn l
