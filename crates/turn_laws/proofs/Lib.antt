@@ -10,3 +10,4 @@ pub mod GroupedLaw
 pub mod AlikeLaw
 pub mod WholeLaw
 pub mod StepsLaw
+pub mod PartLaw

@@ -11,5 +11,5 @@ mod steps;
 mod turns;
 
 pub use going::{alike_law, era_step, grouped_law, push_law, same_items_law, spend_law};
-pub use steps::{instruction_law, moments_law, next_turn_law};
+pub use steps::{instruction_law, moments_law, next_turn_law, part_law};
 pub use turns::{start_law, turn_law, whole_law};

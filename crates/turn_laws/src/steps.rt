@@ -1,12 +1,14 @@
 // What a turn is made of, and what stands after it.
 
-ghost use Rattle.std.specs.Prelude.{◌≡◌, ◌≢◌, ◌≤◌, ◌<◌, ℕ, ◌+◌, ◌-◌, ◌||◌, true, List, [], ◌∷◌, ◌++◌, length, All, Some, None, Option};
+ghost use Rattle.std.specs.Prelude.{◌≡◌, ◌≢◌, ◌≤◌, ◌<◌, ℕ, ◌+◌, ◌-◌, ◌==◌, ◌||◌, true, List, [], ◌∷◌, ◌++◌, length, All, Some, None, Option};
+ghost use Rattle.std.specs.List.{list_any};
 ghost use Rattle.run_record.specs.declared.event.Event.{Event};
 ghost use Rattle.run_record.specs.declared.entry.Entry.{Entry};
 ghost use Rattle.run_record.specs.declared.entry.Check.{Check};
 ghost use Rattle.run_record.specs.declared.entry.DeskNote.TheVariants.{Nothing};
 ghost use Rattle.run_laws.specs.Moments.{Does, moments_in};
 ghost use Rattle.run_laws.specs.Faithful.{Bare, IsMade, after, has_needy, state_after};
+ghost use Rattle.run_laws.specs.Rounds.{Progress, Due, IsInRound, steps_in, steps_by};
 ghost use Rattle.turn_laws.specs.Going.{AreOfEvents};
 ghost use Rattle.turn_laws.specs.Turns.{Turn, GoesOn, entries_before, main_entry, entries_of, moments_before, moments_up_to, note_moment, attach_moments, leave_moments, turn_with_event, with_instruction};
 
@@ -46,4 +48,14 @@ pub fn next_turn_law<S>()
         turn.round ≤ round → All (λ (e : Entry). e.round ≤ round) (entries ++ entries_of (length entries) turn) }
     ensures eras { (entries : List Entry) (turn : Turn) (era : ℕ) → All (λ (e : Entry). e.era ≤ era) entries →
         turn.era ≤ era → All (λ (e : Entry). e.era ≤ era) (entries ++ entries_of (length entries) turn) }
+{}
+
+/// The instructions of a round's entries grow by those of a turn, whose entries are of the round where it is.
+pub fn part_law()
+    ensures steps { (part : List Entry) (n : ℕ) (turn : Turn) →
+        steps_in (part ++ entries_of n turn) ≡ steps_in part + turn.steps }
+    ensures steps_of_thread { (part : List Entry) (n : ℕ) (turn : Turn) →
+        steps_by turn.tid (part ++ entries_of n turn) ≡ steps_by turn.tid part + turn.steps }
+    ensures in_round { (p : Progress) (ds : List Due) (n : ℕ) (turn : Turn) → turn.round ≡ p.round → turn.era ≡ p.era →
+        list_any (λ (d : Due). d.tid == turn.tid) ds ≡ true → All (IsInRound p ds) (entries_of n turn) }
 {}
