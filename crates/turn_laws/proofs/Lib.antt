@@ -11,3 +11,4 @@ pub mod AlikeLaw
 pub mod WholeLaw
 pub mod StepsLaw
 pub mod PartLaw
+pub mod StillLaw

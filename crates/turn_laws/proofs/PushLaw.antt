@@ -151,19 +151,20 @@ spent-event limits h from t e m none late made = record { only = only; there = t
         let p = spent_by_some limits.epochs (label_now limits.epochs h t) e l q in
         (length h, late, record { event = e; made = ap (λ (m : Moment). m.item) (at_seam h m) ∙ made; raising = p.1; label = label_stay limits.epochs h (m ∷ []) (length h) t (omega arith) ∙ p.0; greatest = p.2 })
 
-spent_stays : (limits : Limits) (h : List Moment) (from t : ℕ) (m : Moment) (spent : Option Label) → HasSpent limits h from t spent → ((u : ℕ) (l : Label) (e : Event) → m.item ≡ Does u e → label_now limits.epochs h u ≡ Some l → ⊥) → HasSpent limits (h ++ m ∷ []) from t spent
+-- a moment that spends nothing
+pub spent_stays : (limits : Limits) (h : List Moment) (from t : ℕ) (m : Moment) (spent : Option Label) → HasSpent limits h from t spent → ((u : ℕ) (l : Label) (e : Event) → m.item ≡ Does u e → raises e ≡ 1 → label_now limits.epochs h u ≡ Some l → ⊥) → HasSpent limits (h ++ m ∷ []) from t spent
 spent_stays limits h from t m spent had nothing = record {
-  only = λ n u l k s. elim (last_spends limits h m n u l s) [ inl o ↦ had.only n u l k o | inr o ↦ absurd (nothing u l o.0 o.1 o.3) ];
+  only = λ n u l k s. elim (last_spends limits h m n u l s) [ inl o ↦ had.only n u l k o | inr o ↦ absurd (nothing u l o.0 o.1 o.2 o.3) ];
   there = λ l q. let p = had.there l q in (p.0, p.1, spends_stay limits h (m ∷ []) p.0 t l p.2);
 }
 
 pub spent-after : (limits : Limits) (h : List Moment) (from t : ℕ) (e : Event) (m : Moment) (l : Label) → HasSpent limits h from t (Some l) → m.item ≡ Does t e → label_now limits.epochs h t ≡ None → HasSpent limits (h ++ m ∷ []) from t (Some l)
 spent-after limits h from t e m l had made none =
-    spent_stays limits h from t m (Some l) had (λ u x f q r.
+    spent_stays limits h from t m (Some l) had (λ u x f q raised r.
     let y = sym made ∙ q in
     let thread : t ≡ u = cc in
     let z = sym none ∙ (ap (label_now limits.epochs h) thread ∙ r) in
     absurd cc)
 
 pub spent-quiet : (limits : Limits) (h : List Moment) (from t : ℕ) (m : Moment) (spent : Option Label) → HasSpent limits h from t spent → IsNoEvent m → HasSpent limits (h ++ m ∷ []) from t spent
-spent-quiet limits h from t m spent had none = spent_stays limits h from t m spent had (λ u l e q r. none u e q)
+spent-quiet limits h from t m spent had none = spent_stays limits h from t m spent had (λ u l e q raised r. none u e q)

@@ -1,3 +1,4 @@
 pub mod SoFar
 pub mod Turns
 pub mod Going
+pub mod Still
