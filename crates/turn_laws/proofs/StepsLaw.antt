@@ -8,7 +8,7 @@ use Rattle.std.proofs.lemmas.List.Sums.{fold-append}
 use Rattle.std.proofs.lemmas.Bool.{cases_eq}
 use Rattle.std.proofs.lemmas.Option.{slice_get_within, get_or_from_slice_get}
 use Rattle.run_record.specs.declared.event.Event.{Event}
-use Rattle.run_record.specs.declared.entry.DeskNote.TheVariants.{Nothing, Leave}
+use Rattle.run_record.specs.declared.entry.DeskNote.TheVariants.{Nothing, Attach, Leave}
 use Rattle.run_record.specs.declared.entry.Entry.{Entry}
 use Rattle.run_record.specs.declared.entry.Label.{Label}
 use Rattle.run_record.specs.declared.entry.Check.{Check}
@@ -163,3 +163,25 @@ rounds_after entries turn round a l = all_after (λ (e : Entry). e.round ≤ rou
 
 pub eras_after : (entries : List Entry) (turn : Turn) (era : ℕ) → All (λ (e : Entry). e.era ≤ era) entries → turn.era ≤ era → All (λ (e : Entry). e.era ≤ era) (entries ++ entries_of (length entries) turn)
 eras_after entries turn era a l = all_after (λ (e : Entry). e.era ≤ era) entries turn a (λ s x. l) (λ s. l) (λ s x. l)
+
+-- the same, by whether a label is taken
+pub before_without : (entries : List Entry) (turn : Turn) → turn.attached ≡ None → moments_before entries turn ≡ moments_in turn.round turn.era entries
+before_without entries turn none =
+    before_is entries turn
+    ∙ (ap (λ o. moments_in turn.round turn.era entries ++ option_to_list (option_map (λ (l : Label). note_moment (length entries) turn (Attach l)) o)) none
+    ∙ append-nil (moments_in turn.round turn.era entries))
+
+pub before_with : (entries : List Entry) (turn : Turn) (l : Label) → turn.attached ≡ Some l → moments_before entries turn ≡ moments_in turn.round turn.era entries ++ note_moment (length entries) turn (Attach l) ∷ []
+before_with entries turn l some =
+    before_is entries turn
+    ∙ ap (λ o. moments_in turn.round turn.era entries ++ option_to_list (option_map (λ (l : Label). note_moment (length entries) turn (Attach l)) o)) some
+
+pub count_without : (entries : List Entry) (turn : Turn) → turn.attached ≡ None → length (entries_before entries turn) ≡ length entries
+count_without entries turn none =
+    let z : length (attach_entries (length entries) turn) ≡ 0 = ap (λ o. length (option_to_list (option_map (attach_entry (length entries + 1) turn) o))) none in
+    omega (arith, length-append entries (attach_entries (length entries) turn))
+
+pub count_with : (entries : List Entry) (turn : Turn) (l : Label) → turn.attached ≡ Some l → length (entries_before entries turn) ≡ length entries + 1
+count_with entries turn l some =
+    let z : length (attach_entries (length entries) turn) ≡ 1 = ap (λ o. length (option_to_list (option_map (attach_entry (length entries + 1) turn) o))) some in
+    omega (arith, length-append entries (attach_entries (length entries) turn))
