@@ -1,0 +1,6 @@
+pub mod TakenLabels
+pub mod StandingLaw
+pub mod OnceLaw
+pub mod SeenLaw
+pub mod OwnedLabels
+pub mod PreviousLaw

@@ -1,0 +1,42 @@
+-- Candidates that await the end of their round, and the reports that are then made of them.
+use Rattle.std.specs.Prelude.{◌≡◌, ℕ, suc, List, [], ◌∷◌, ◌++◌}
+use Rattle.run_record.specs.declared.entry.Check.{Check}
+use Rattle.run_record.specs.declared.limits.Limits.{Limits}
+use Rattle.run_record.specs.declared.report.Report.{Report}
+use Rattle.run_record.specs.declared.report.Side.{Side}
+use Rattle.run_laws.specs.Moments.{Moment}
+use Rattle.run_laws.specs.Accesses.{Access}
+use Rattle.run_laws.specs.Words.{label_in}
+use Rattle.run_laws.specs.Candidates.{IsCandidate}
+use Rattle.run_laws.specs.Reports.{MakesAccess, told_side}
+use Rattle.trace_parts.specs.Held.{HeldTrace}
+use Rattle.trace_parts.specs.Sought.{restored, first_held}
+use Rattle.report_laws.specs.Owners.{IsLabelOf, IsTraceOf, previous_side}
+
+-- An access with a candidate: the access as it is told, and the candidate's granule and word.
+pub record Awaited : Type 0 where
+  pub mine : Side
+  pub granule : ℕ
+  pub word : ℕ
+
+-- The accesses between two positions that have a candidate, in their order.
+pub data Awaits (g : ℕ) (h : List Moment) (from : ℕ) : ℕ → List Awaited → Type 0 where
+  Start : Awaits g h from from []
+  Quiet :
+      {n : ℕ} {waiting : List Awaited} → Awaits g h from n waiting →
+      ((check : Check) (word : ℕ) → IsCandidate g h n check word → ⊥) →
+      Awaits g h from (suc n) waiting
+  Race :
+      {n : ℕ} {waiting : List Awaited} (check : Check) (word tid : ℕ) (access : Access) →
+      Awaits g h from n waiting → IsCandidate g h n check word → MakesAccess h n tid access →
+      Awaits g h from (suc n) (waiting ++ record { mine = told_side h n tid access; granule = check.granule; word = word } ∷ [])
+
+-- The report is what the trace of the thread that the word's label is of tells in the end.
+pub record IsToldBy (limits : Limits) (address_of : ℕ → ℕ) (h : List Moment) (one : Awaited) (report : Report) : Type 0 where
+  pub tid : ℕ
+  pub label_of : IsLabelOf limits.epochs h tid (label_in one.word)
+  pub trace : HeldTrace
+  pub trace_of : IsTraceOf limits h tid trace
+  pub mine : report.mine ≡ one.mine
+  pub previous : report.previous ≡
+      previous_side address_of one.granule one.word tid (restored (first_held trace.held (label_in one.word) (address_of one.granule) one.word))
