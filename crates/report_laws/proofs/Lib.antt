@@ -4,3 +4,5 @@ pub mod OnceLaw
 pub mod SeenLaw
 pub mod OwnedLabels
 pub mod PreviousLaw
+pub mod AgreeLaw
+pub mod GrownLaw
