@@ -6,3 +6,6 @@ pub mod OwnedLabels
 pub mod PreviousLaw
 pub mod AgreeLaw
 pub mod GrownLaw
+pub mod CandidateSteps
+pub mod AwaitedLaw
+pub mod RaceReports

@@ -6,7 +6,8 @@ use Rattle.run_record.specs.declared.report.Report.{Report}
 use Rattle.run_record.specs.declared.report.Side.{Side}
 use Rattle.run_laws.specs.Moments.{Moment}
 use Rattle.run_laws.specs.Accesses.{Access}
-use Rattle.run_laws.specs.Words.{label_in}
+use Rattle.run_laws.specs.Words.{era, label_in}
+use Rattle.run_laws.specs.Present.{labels_now}
 use Rattle.run_laws.specs.Candidates.{IsCandidate}
 use Rattle.run_laws.specs.Reports.{MakesAccess, told_side}
 use Rattle.trace_parts.specs.Held.{HeldTrace}
@@ -30,6 +31,12 @@ pub data Awaits (g : ℕ) (h : List Moment) (from : ℕ) : ℕ → List Awaited 
       {n : ℕ} {waiting : List Awaited} (check : Check) (word tid : ℕ) (access : Access) →
       Awaits g h from n waiting → IsCandidate g h n check word → MakesAccess h n tid access →
       Awaits g h from (suc n) (waiting ++ record { mine = told_side h n tid access; granule = check.granule; word = word } ∷ [])
+
+-- The label of the candidate's word is a thread's, and of the present era.
+pub record HasOwner (g : ℕ) (h : List Moment) (one : Awaited) : Type 0 where
+  pub tid : ℕ
+  pub label_of : IsLabelOf g h tid (label_in one.word)
+  pub present : era one.word ≡ (labels_now g h).era
 
 -- The report is what the trace of the thread that the word's label is of tells in the end.
 pub record IsToldBy (limits : Limits) (address_of : ℕ → ℕ) (h : List Moment) (one : Awaited) (report : Report) : Type 0 where

@@ -4,10 +4,11 @@ ghost use Rattle.std.specs.Prelude.{◌≡◌, ◌<◌, ◌≤◌, ℕ, suc, Som
 ghost use Rattle.run_record.specs.declared.entry.Entry.{Entry};
 ghost use Rattle.run_record.specs.declared.entry.Check.{Check};
 ghost use Rattle.run_record.specs.declared.limits.Limits.{Limits};
+ghost use Rattle.run_record.specs.declared.report.Report.{Report};
 ghost use Rattle.run_laws.specs.Moments.{Moment, moments, moment_at};
 ghost use Rattle.run_laws.specs.Accesses.{Access};
 ghost use Rattle.run_laws.specs.Candidates.{IsCandidate};
-ghost use Rattle.run_laws.specs.Reports.{MakesAccess, told_side};
+ghost use Rattle.run_laws.specs.Reports.{MakesAccess, told_side, Finds};
 ghost use Rattle.report_laws.specs.Sound.{IsSound, first_race};
 ghost use Rattle.report_laws.specs.Awaited.{Awaited, Awaits};
 
@@ -35,6 +36,9 @@ pub fn race_law()
 
 /// Between two positions without checks between them there is no candidate.
 pub fn quiet_law()
-    ensures { (g : ℕ) (h : List Moment) (from n m : ℕ) (waiting : List Awaited) → Awaits g h from n waiting → n ≤ m →
+    ensures awaits { (g : ℕ) (h : List Moment) (from n m : ℕ) (waiting : List Awaited) → Awaits g h from n waiting → n ≤ m →
         ((k : ℕ) → n ≤ k → k < m → (moment_at h k).checks ≡ []) → Awaits g h from m waiting }
+    ensures finds { (limits : Limits) (address_of : ℕ → ℕ) (h : List Moment) (n m : ℕ) (found : List Report) →
+        Finds limits address_of h n found → n ≤ m → ((k : ℕ) → n ≤ k → k < m → (moment_at h k).checks ≡ []) →
+        Finds limits address_of h m found }
 {}

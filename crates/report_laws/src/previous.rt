@@ -1,6 +1,6 @@
 // The earlier access of a report: whose it is, and that the trace of its thread tells it.
 
-ghost use Rattle.std.specs.Prelude.{◌≡◌, ◌<◌, ℕ, Some, true, Bool, IsSome, List, length, Option};
+ghost use Rattle.std.specs.Prelude.{◌≡◌, ◌<◌, ◌≤◌, ℕ, Some, true, Bool, IsSome, List, length, All, Option};
 ghost use Rattle.run_record.specs.declared.entry.Entry.{Entry};
 ghost use Rattle.run_record.specs.declared.entry.Check.{Check};
 ghost use Rattle.run_record.specs.declared.entry.Label.{Label};
@@ -10,16 +10,17 @@ ghost use Rattle.run_laws.specs.Labels.{labels};
 ghost use Rattle.run_laws.specs.Accesses.{Access};
 ghost use Rattle.run_laws.specs.Words.{sid, label_in};
 ghost use Rattle.run_laws.specs.Window.{round_end, is_held};
-ghost use Rattle.run_laws.specs.Present.{trace_now};
+ghost use Rattle.run_laws.specs.Present.{labels_now, trace_now};
 ghost use Rattle.run_laws.specs.Candidates.{IsCandidate};
 ghost use Rattle.run_laws.specs.Reports.{MakesAccess, told_side, IsReport};
 ghost use Rattle.trace_parts.specs.Held.{HeldTrace, has_label};
 ghost use Rattle.trace_parts.specs.Sought.{restored, first_held};
 ghost use Rattle.report_laws.specs.Sound.{IsSound, TellsAddresses};
 ghost use Rattle.report_laws.specs.Owners.{IsLabelOf, IsTraceOf, previous_side};
+ghost use Rattle.report_laws.specs.Awaited.{Awaited, Awaits, HasOwner};
 
 /// The label in a candidate's word is that of a thread, and of one alone. Its slot is one of the limits', and its
-/// era that of the access that loaded it.
+/// era that of the access that loaded it; so it is the present one where no era began since.
 pub fn owner_law()
     ensures owner { (limits : Limits) (granule_of : ℕ → Option ℕ) (needs_slot : ℕ → Bool) (entries : List Entry) →
         IsSound limits granule_of needs_slot entries → (n : ℕ) (check : Check) (word : ℕ) →
@@ -34,6 +35,11 @@ pub fn owner_law()
         (label_in word).era ≡ (labels limits.epochs (items (moments entries)) n).era }
     ensures one_thread { (g : ℕ) (h : List Moment) (u v : ℕ) (label : Label) → IsLabelOf g h u label →
         IsLabelOf g h v label → u ≡ v }
+    ensures awaited { (limits : Limits) (granule_of : ℕ → Option ℕ) (needs_slot : ℕ → Bool) (entries : List Entry) →
+        IsSound limits granule_of needs_slot entries → (from n : ℕ) (waiting : List Awaited) →
+        Awaits limits.epochs (moments entries) from n waiting → n ≤ length (moments entries) →
+        (labels limits.epochs (items (moments entries)) from).era ≡ (labels_now limits.epochs (moments entries)).era →
+        All (HasOwner limits.epochs (moments entries)) waiting }
 {}
 
 /// Let an access have a candidate, and let its round be the last one. The trace of the thread that the word's label is

@@ -1,3 +1,4 @@
+use Rattle.report_laws.proofs.AwaitedLaw.{owners}
 use Rattle.report_laws.proofs.OwnedLabels.{owner, slot, own_era, one_thread}
 use Rattle.report_laws.proofs.previous.owner_law.Goals as goal
 
@@ -12,3 +13,6 @@ returns-clause-era c = own_era
 
 pub returns-clause-one_thread : goal.returns-clause-one_thread
 returns-clause-one_thread c = one_thread
+
+pub returns-clause-awaited : goal.returns-clause-awaited
+returns-clause-awaited c = owners
