@@ -81,10 +81,10 @@ first_stays h later granule w x e =
     let t = lt-ltb x (length (h ++ later)) (omega arith) in
     rw (at, t) refl
 
-told_stays : (h later : List Moment) (n t : ℕ) (a : Access) → n ≤ length h → told_side (h ++ later) n t a ≡ told_side h n t a
+pub told_stays : (h later : List Moment) (n t : ℕ) (a : Access) → n ≤ length h → told_side (h ++ later) n t a ≡ told_side h n t a
 told_stays h later n t a l = rw (frames_stay h later n t l, locks_stay h later n t l) refl
 
-makes_stays : (h later : List Moment) (n t : ℕ) (a : Access) → n < length h → MakesAccess h n t a → MakesAccess (h ++ later) n t a
+pub makes_stays : (h later : List Moment) (n t : ℕ) (a : Access) → n < length h → MakesAccess h n t a → MakesAccess (h ++ later) n t a
 makes_stays h later n t a l made = ap (λ (m : Moment). m.item) (moments-append h later n l) ∙ made
 
 pub awaits_stay : (g : ℕ) (h later : List Moment) (from n : ℕ) (waiting : List Awaited) → n ≤ length h → Awaits g h from n waiting → Awaits g (h ++ later) from n waiting

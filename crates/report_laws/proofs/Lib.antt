@@ -9,3 +9,5 @@ pub mod GrownLaw
 pub mod CandidateSteps
 pub mod AwaitedLaw
 pub mod RaceReports
+pub mod CheckRaces
+pub mod CollectedLaw

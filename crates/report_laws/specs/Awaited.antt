@@ -1,10 +1,10 @@
 -- Candidates that await the end of their round, and the reports that are then made of them.
-use Rattle.std.specs.Prelude.{◌≡◌, ℕ, suc, List, [], ◌∷◌, ◌++◌}
+use Rattle.std.specs.Prelude.{◌≡◌, ℕ, suc, List, [], ◌∷◌, ◌++◌, Some, None}
 use Rattle.run_record.specs.declared.entry.Check.{Check}
 use Rattle.run_record.specs.declared.limits.Limits.{Limits}
 use Rattle.run_record.specs.declared.report.Report.{Report}
 use Rattle.run_record.specs.declared.report.Side.{Side}
-use Rattle.run_laws.specs.Moments.{Moment}
+use Rattle.run_laws.specs.Moments.{Moment, moment_at}
 use Rattle.run_laws.specs.Accesses.{Access}
 use Rattle.run_laws.specs.Words.{era, label_in}
 use Rattle.run_laws.specs.Present.{labels_now}
@@ -12,6 +12,7 @@ use Rattle.run_laws.specs.Candidates.{IsCandidate}
 use Rattle.run_laws.specs.Reports.{MakesAccess, told_side}
 use Rattle.trace_parts.specs.Held.{HeldTrace}
 use Rattle.trace_parts.specs.Sought.{restored, first_held}
+use Rattle.report_laws.specs.Sound.{first_race}
 use Rattle.report_laws.specs.Owners.{IsLabelOf, IsTraceOf, previous_side}
 
 -- An access with a candidate: the access as it is told, and the candidate's granule and word.
@@ -31,6 +32,21 @@ pub data Awaits (g : ℕ) (h : List Moment) (from : ℕ) : ℕ → List Awaited 
       {n : ℕ} {waiting : List Awaited} (check : Check) (word tid : ℕ) (access : Access) →
       Awaits g h from n waiting → IsCandidate g h n check word → MakesAccess h n tid access →
       Awaits g h from (suc n) (waiting ++ record { mine = told_side h n tid access; granule = check.granule; word = word } ∷ [])
+
+-- The accesses between two positions that loaded a word which their threads' clocks find to race, in their order.
+pub data Collects (g : ℕ) (h : List Moment) (from : ℕ) : ℕ → List Awaited → Type 0 where
+  Begin : Collects g h from from []
+  Unchecked :
+      {n : ℕ} {waiting : List Awaited} → Collects g h from n waiting → (moment_at h n).checks ≡ [] →
+      Collects g h from (suc n) waiting
+  Ordered :
+      {n : ℕ} {waiting : List Awaited} (tid : ℕ) (access : Access) →
+      Collects g h from n waiting → MakesAccess h n tid access → first_race g h n tid ≡ None →
+      Collects g h from (suc n) waiting
+  Unordered :
+      {n : ℕ} {waiting : List Awaited} (check : Check) (word tid : ℕ) (access : Access) →
+      Collects g h from n waiting → MakesAccess h n tid access → first_race g h n tid ≡ Some (check, word) →
+      Collects g h from (suc n) (waiting ++ record { mine = told_side h n tid access; granule = check.granule; word = word } ∷ [])
 
 -- The label of the candidate's word is a thread's, and of the present era.
 pub record HasOwner (g : ℕ) (h : List Moment) (one : Awaited) : Type 0 where

@@ -1,5 +1,6 @@
--- What is known of the entries of a history before its reports are made.
-use Rattle.std.specs.Prelude.{◌≡◌, ℕ, ◌*◌, ◌<◌, ◌≤◌, Bool, List, Option, Some, All, find}
+-- What is known of the entries of a history before its reports are made, and what a thread's clock finds of the
+-- words that its access loaded.
+use Rattle.std.specs.Prelude.{◌≡◌, ℕ, ◌*◌, ◌<◌, ◌≤◌, Bool, List, Option, Some, All, find, flat_map, map}
 use Rattle.run_record.specs.declared.entry.Entry.{Entry}
 use Rattle.run_record.specs.declared.entry.Check.{Check}
 use Rattle.run_record.specs.declared.limits.Limits.{Limits}
@@ -8,7 +9,7 @@ use Rattle.run_laws.specs.Clocks.{clocks}
 use Rattle.run_laws.specs.DeskNotes.{AreNotes}
 use Rattle.run_laws.specs.Checks.{AreAllChecks, AllStoreRightly}
 use Rattle.run_laws.specs.Loads.{AllLoadRightly}
-use Rattle.run_laws.specs.Candidates.{is_race, loaded_by}
+use Rattle.run_laws.specs.Candidates.{is_race}
 
 -- The limits are in the ranges of a word's fields; notes stand rightly, checks are those of the accesses, and
 -- they store and load by the rules.
@@ -29,6 +30,14 @@ TellsAddresses granule_of address_of = (block granule : ℕ) → granule_of (8 *
 abbrev pub AreOfLaterRounds : List Entry → List Entry → Type 0
 AreOfLaterRounds entries later = All (λ (e : Entry). All (λ (d : Entry). d.round < e.round) entries) later
 
--- the first word that thread t's access at position n loaded and that its clock finds to race, with its check
+-- the first word that the check loaded and that the clock finds to race with the check's own
+abbrev pub race_in : (ℕ → ℕ) → Check → Option ℕ
+race_in clock c = find (is_race clock c.word) c.cells
+
+-- the first such word of some checks, with its check
+abbrev pub first_race_in : (ℕ → ℕ) → List Check → Option (Check × ℕ)
+first_race_in clock checks = find (λ (l : Check × ℕ). is_race clock l.0.word l.1) (flat_map (λ (c : Check). map (λ (w : ℕ). (c, w)) c.cells) checks)
+
+-- the first one of thread t's access at position n, by its clock there
 abbrev pub first_race : ℕ → List Moment → ℕ → ℕ → Option (Check × ℕ)
-first_race g h n t = find (λ (l : Check × ℕ). is_race ((clocks g (items h) n).thread t) l.0.word l.1) (loaded_by (moment_at h n))
+first_race g h n t = first_race_in ((clocks g (items h) n).thread t) (moment_at h n).checks

@@ -2,18 +2,20 @@
 //!
 //! Below stand `run_record`, with entries and reports, `run_laws`, with the definitions of candidates and
 //! reports, and `trace_parts`, with what a trace holds. The functions here do nothing: the contract of each
-//! is a law. The layer above keeps a `Finds` while it steps threads: along a round it notes the candidates
-//! by `race_law` and `quiet_law`, at the round's end it makes their reports by `owner_law`, `previous_law`
-//! and `reports_law`, and goes on with a longer history by `found_law`. `stands_law` says what each report
-//! stands for.
+//! is a law. The layer above keeps a `Finds` while it steps threads: along a round it collects what the
+//! threads' clocks find by `checks_law` and `collects_law`, and these are the candidates by `collected_law`;
+//! at the round's end it makes their reports by `owner_law`, `previous_law` and `reports_law`, and goes on
+//! with a longer history by `found_law` and `round_law`. `stands_law` says what each report stands for.
 #![tactic(auto)]
 
 mod candidates;
+mod collected;
 mod grown;
 mod previous;
 mod reports;
 
-pub use candidates::{quiet_law, race_law};
+pub use candidates::{checks_law, quiet_law, race_law};
+pub use collected::{collected_law, collects_law};
 pub use grown::{awaits_law, candidate_law, found_law, round_law};
 pub use previous::{owner_law, previous_law};
 pub use reports::{kept_law, reports_law, stands_law};
