@@ -1,5 +1,5 @@
 -- Histories that have the same moments before a position have the same candidates there.
-use Rattle.std.proofs.Common.{◌≡◌, ℕ, ◌<◌, ◌≤◌, ◌==◌, ◌&&◌, ◌↔◌, Bool, true, false, Some, List, [], ◌++◌, length, slice_get, refl, sym, ap, ap₂, subst, ◌∙◌, arith}
+use Rattle.std.proofs.Common.{◌≡◌, ℕ, ◌<◌, ◌≤◌, ◌↔◌, true, Some, List, [], ◌++◌, length, slice_get, sym, ap, ap₂, subst, ◌∙◌, arith}
 use Rattle.std.proofs.Math.ListN.{get_or-append}
 use Rattle.run_record.specs.declared.entry.Check.{Check}
 use Rattle.run_laws.specs.Moments.{Item, Past, Moment, moment_at, items}

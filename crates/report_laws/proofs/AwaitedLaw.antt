@@ -82,7 +82,7 @@ module _ (limits : Limits) (granule_of : ℕ → Option ℕ) (address_of : ℕ �
       let end = ends n (awaits-le limits.epochs (moments entries) from n ws before) (omega arith) in
       let g = r.goes in
       let report : IsReport limits address_of (moments entries) n c.granule w r.last =
-          subst (IsReport limits address_of (moments entries) n c.granule w) (same_report r.last _ _ g.mine g.previous)
-          (report_told limits granule_of address_of needs_slot entries sound addresses n c w k end g.tid g.label_of g.trace g.trace_of t a made)
+      subst (IsReport limits address_of (moments entries) n c.granule w) (same_report r.last _ _ g.mine g.previous)
+      (report_told limits granule_of address_of needs_slot entries sound addresses n c w k end g.tid g.label_of g.trace g.trace_of t a made)
       in
       subst (Finds limits address_of (moments entries) (suc n)) (append_assoc found r.before (r.last ∷ []) ∙ ap (λ (rs : List Report). found ++ rs) (sym r.whole)) (reports.Race c w r.last earlier k report)

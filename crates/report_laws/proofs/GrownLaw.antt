@@ -1,8 +1,7 @@
 -- Reports stay where a history goes on in later rounds.
-use Rattle.std.proofs.Common.{◌≡◌, ℕ, zero, suc, ◌+◌, ◌-◌, ◌<◌, ◌≤◌, if◌then◌else◌, Bool, true, false, cond, nat_le, nat_lt, Option, Some, None, List, [], ◌∷◌, ◌++◌, length, map, get_or, refl, sym, ap, ap₂, subst, ◌∙◌, arith}
-use Rattle.std.specs.Prelude.{All, replicate, count_by}
+use Rattle.std.proofs.Common.{◌≡◌, ℕ, suc, ◌+◌, ◌-◌, ◌<◌, ◌≤◌, Bool, true, false, cond, nat_le, Some, List, [], ◌∷◌, ◌++◌, length, map, get_or, refl, sym, ap, subst, ◌∙◌, arith}
+use Rattle.std.specs.Prelude.{All, count_by}
 use Rattle.std.specs.List.{enumerate_from, position_or_len}
-use Rattle.std.proofs.Math.ListN.{get_or-append}
 use Rattle.std.proofs.Math.Seq.{get_or-append_right}
 use Rattle.std.proofs.lemmas.Bool.{lt-ltb, le-leb, lt-leb}
 use Rattle.std.proofs.lemmas.List.{length-append}
@@ -11,16 +10,13 @@ use Rattle.std.proofs.lemmas.List.Quantifiers.{position-Some}
 use Rattle.std.proofs.lemmas.List.Elements.{All-nil, All-cons, All-append, All-head, All-tail, All-replicate}
 use Rattle.run_record.specs.declared.event.Event.{Event}
 use Rattle.run_record.specs.declared.entry.Entry.{Entry}
-use Rattle.run_record.specs.declared.entry.Check.{Check}
 use Rattle.run_record.specs.declared.limits.Limits.{Limits}
 use Rattle.run_record.specs.declared.report.Report.{Report}
 use Rattle.run_record.specs.declared.report.Side.{Side}
 use Rattle.run_laws.specs.Moments.{Notes, NewEra, Past, Moment, moment_at, items, moments, moments_from, era_moments, entry_moments, event_moment}
 use Rattle.run_laws.specs.Accesses.{Access}
-use Rattle.run_laws.specs.Words.{label_in}
-use Rattle.run_laws.specs.Stacks.{frames, kept_locks}
-use Rattle.run_laws.specs.Window.{trace_before, is_held, round_end}
-use Rattle.run_laws.specs.Candidates.{has_word, IsCandidate}
+use Rattle.run_laws.specs.Window.{trace_before, round_end}
+use Rattle.run_laws.specs.Candidates.{has_word}
 use Rattle.run_laws.specs.Reports.{first_with, MakesAccess, told_side, lost_side, IsReport, Finds}
 use Rattle.run_laws.specs.Reports as reports
 use Rattle.run_laws.proofs.PresentLaw.{trace_stay, frames_stay, locks_stay}
@@ -28,7 +24,6 @@ use Rattle.run_laws.proofs.MomentsLaw.{era_after, moments_from-append}
 use Rattle.report_laws.specs.Sound.{AreOfLaterRounds}
 use Rattle.report_laws.specs.Awaited.{Awaited, Awaits}
 use Rattle.report_laws.specs.Awaited as awaited
-use Rattle.report_laws.proofs.OwnedLabels.{first_has}
 use Rattle.report_laws.proofs.AgreeLaw.{moments-append, candidates_stay}
 
 -- what holds of the rounds of entries holds of those of their moments
@@ -74,9 +69,9 @@ first_stays h later granule w x e =
     let within : x < length h = p.0 in
     let long = length-append h later in
     let at : position_or_len (has_word granule w) (h ++ later) ≡ x =
-        position_or_len_is (has_word granule w) (h ++ later) x past (omega arith)
-        (λ k l. ap (has_word granule w) (moments-append h later k (omega arith)) ∙ p.2 k l)
-        (λ l. ap (has_word granule w) (moments-append h later x within) ∙ p.1)
+    position_or_len_is (has_word granule w) (h ++ later) x past (omega arith)
+    (λ k l. ap (has_word granule w) (moments-append h later k (omega arith)) ∙ p.2 k l)
+    (λ l. ap (has_word granule w) (moments-append h later x within) ∙ p.1)
     in
     let t = lt-ltb x (length (h ++ later)) (omega arith) in
     rw (at, t) refl
@@ -145,9 +140,9 @@ last_round entries last round before now n l m =
     let cut : moments (entries ++ last) ≡ moments entries ++ tail = moments_from-append 0 0 entries last in
     let long : length (moments (entries ++ last)) ≡ length (moments entries) + length tail = ap length cut ∙ length-append (moments entries) tail in
     let own : (moment_at (moments (entries ++ last)) n).round ≡ round =
-        ap (λ (h : List Moment). (moment_at h n).round) cut
-        ∙ (ap (λ (x : Moment). x.round) (get_or-append_right (moments entries) tail n (record { entry = 0; round = 0; item = Past; checks = [] }) l)
-        ∙ rounds_of (λ r. r ≡ round) (era_after 0 entries) (0 + length entries) last now (n - length (moments entries)) (record { entry = 0; round = 0; item = Past; checks = [] }) (omega arith))
+    ap (λ (h : List Moment). (moment_at h n).round) cut
+    ∙ (ap (λ (x : Moment). x.round) (get_or-append_right (moments entries) tail n (record { entry = 0; round = 0; item = Past; checks = [] }) l)
+    ∙ rounds_of (λ r. r ≡ round) (era_after 0 entries) (0 + length entries) last now (n - length (moments entries)) (record { entry = 0; round = 0; item = Past; checks = [] }) (omega arith))
     in
     ap (round_end (moments (entries ++ last))) own
     ∙ count_all round (moments (entries ++ last)) (rounds_of (λ r. r ≤ round) 0 0 (entries ++ last) (All-append (λ (e : Entry). e.round ≤ round) entries last before (λ i d y. let z = now i d y in omega arith)))

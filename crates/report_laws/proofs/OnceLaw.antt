@@ -1,7 +1,7 @@
 -- A thread's trace has a label at most once.
-use Rattle.std.proofs.Common.{◌≡◌, ℕ, zero, suc, ◌+◌, ◌<◌, ◌≤◌, ◌==◌, ◌&&◌, ◌⊎◌, if◌then◌else◌, Bool, true, false, cond, Option, Some, None, List, [], ◌∷◌, ◌++◌, refl, sym, ap, subst, inl, inr, ◌∙◌, arith, eqb-true, eq-eqb, ne_eqb}
+use Rattle.std.proofs.Common.{◌≡◌, ℕ, zero, suc, ◌+◌, ◌≤◌, ◌==◌, ◌&&◌, ◌⊎◌, if◌then◌else◌, Bool, true, false, cond, Option, Some, None, List, [], ◌∷◌, refl, sym, ap, subst, inl, inr, ◌∙◌, arith, eqb-true, eq-eqb, ne_eqb}
 use Rattle.std.specs.Prelude.{count_by}
-use Rattle.std.proofs.lemmas.Bool.{cases_eq, cases_lt, cases_Bool, and_parts}
+use Rattle.std.proofs.lemmas.Bool.{cases_eq, cases_lt, and_parts}
 use Rattle.std.proofs.lemmas.List.Sums.{sum_by-append}
 use Rattle.run_record.specs.declared.event.Event.{Event}
 use Rattle.run_record.specs.declared.event.Event.TheVariants.{Create, Release, Access, Enter, Leave, Lock, Unlock}
@@ -9,7 +9,7 @@ use Rattle.run_record.specs.declared.entry.DeskNote.TheVariants as notes
 use Rattle.run_record.specs.declared.entry.Label.{Label}
 use Rattle.run_laws.specs.Moments.{Item, Does, Notes, NewEra, Past, Moment, items}
 use Rattle.run_laws.specs.Labels.{Labels, raises, can_attach, attach_labels, next_labels, labels, label_of}
-use Rattle.run_laws.specs.Window.{TraceEvent, Labelled, Traced, is_label, traced_by, trace_before}
+use Rattle.run_laws.specs.Window.{TraceEvent, Labelled, is_label, traced_by, trace_before}
 use Rattle.run_laws.proofs.SlotSteps.{attach_epoch_grows}
 use Rattle.run_laws.proofs.SlotInvariant.{labels-next, era_next}
 use Rattle.report_laws.proofs.TakenLabels.{Takes, same_label, raised_takes}

@@ -1,6 +1,6 @@
 -- Whose the label of a candidate's word is.
-use Rattle.std.proofs.Common.{◌≡◌, ◌≢◌, ℕ, suc, ◌+◌, ◌-◌, ◌*◌, ◌/◌, ◌<◌, ◌≤◌, ◌==◌, ◌&&◌, ◌⊎◌, not, Bool, true, false, Option, Some, List, [], length, refl, sym, ap, subst, inl, inr, ◌∙◌, arith, eqb-true, eq-eqb, ne_eqb}
-use Rattle.std.proofs.lemmas.Bool.{cases_eq, cases_lt, cases_order, and_parts, and_from}
+use Rattle.std.proofs.Common.{◌≡◌, ◌≢◌, ℕ, ◌+◌, ◌-◌, ◌*◌, ◌/◌, ◌<◌, ◌≤◌, ◌==◌, ◌&&◌, not, Bool, true, false, Option, Some, List, [], length, refl, sym, ap, subst, inl, inr, ◌∙◌, arith, eqb-true, eq-eqb, ne_eqb}
+use Rattle.std.proofs.lemmas.Bool.{cases_eq, cases_lt, and_parts, and_from}
 use Rattle.std.proofs.lemmas.List.Quantifiers.{position-Some}
 use Rattle.std.proofs.Math.ListN.{get_or-eq_default}
 use Rattle.run_record.specs.declared.event.Event.{Event}
@@ -15,7 +15,7 @@ use Rattle.run_laws.specs.Labels.{labels, label_of}
 use Rattle.run_laws.specs.Accesses.{Access, access_of, end_of, mask_in}
 use Rattle.run_laws.specs.Words.{word_of, sid, epoch, era, is_read, is_atomic, label_in}
 use Rattle.run_laws.specs.Checks.{ChecksPart, AreChecks}
-use Rattle.run_laws.specs.Candidates.{has_word, HasLabel, TellLabels, IsCandidate}
+use Rattle.run_laws.specs.Candidates.{has_word, TellLabels, IsCandidate}
 use Rattle.run_laws.specs.Reports.{first_with}
 use Rattle.run_laws.proofs.OwnerLaw.{later_owner}
 use Rattle.run_laws.proofs.QueueLaw.{attaches, slots_within}
@@ -27,7 +27,7 @@ use Rattle.run_laws.proofs.FindLaw.{has_own_word, loaded_from}
 use Rattle.run_laws.proofs.UnorderedLaw.{some_first}
 use Rattle.trace_parts.specs.Sought.{leaves_word}
 use Rattle.report_laws.specs.Sound.{IsSound}
-use Rattle.report_laws.specs.Owners.{MadeUnder, IsLabelOf}
+use Rattle.report_laws.specs.Owners.{IsLabelOf}
 use Rattle.report_laws.proofs.TakenLabels.{Takes, same_label, attached_takes}
 
 -- a label is one thread's

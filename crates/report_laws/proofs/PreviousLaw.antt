@@ -1,5 +1,5 @@
 -- The trace of the thread that a candidate's label is of tells the earlier access.
-use Rattle.std.proofs.Common.{◌≡◌, ◌≢◌, ℕ, suc, ◌*◌, ◌<◌, ◌≤◌, if◌then◌else◌, Bool, true, false, Option, Some, None, List, ◌∷◌, length, map, take, refl, sym, ap, subst, inl, inr, ◌∙◌, arith}
+use Rattle.std.proofs.Common.{◌≡◌, ℕ, ◌<◌, ◌≤◌, if◌then◌else◌, Bool, true, false, Option, Some, None, List, ◌∷◌, length, take, refl, sym, ap, subst, inl, inr, ◌∙◌, arith}
 use Rattle.std.specs.Prelude.{IsSome}
 use Rattle.std.specs.List.{list_any}
 use Rattle.std.proofs.lemmas.Bool.{cases_Bool}
@@ -13,16 +13,15 @@ use Rattle.run_record.specs.declared.report.Report.{Report}
 use Rattle.run_record.specs.declared.report.Side.{Side}
 use Rattle.run_laws.specs.Moments.{Moment, moment_at, items, moments}
 use Rattle.run_laws.specs.Accesses.{Access}
-use Rattle.run_laws.specs.Words.{is_read, is_atomic, label_in}
-use Rattle.run_laws.specs.Stacks.{frames, kept_locks}
-use Rattle.run_laws.specs.Window.{TraceEvent, Traced, is_label, parts_of_trace, trace_before, is_held, round_end}
+use Rattle.run_laws.specs.Words.{label_in}
+use Rattle.run_laws.specs.Window.{is_label, parts_of_trace, trace_before, is_held, round_end}
 use Rattle.run_laws.specs.Present.{trace_now}
 use Rattle.run_laws.specs.Candidates.{IsCandidate}
 use Rattle.run_laws.specs.Reports.{MakesAccess, first_with, told_side, lost_side, IsReport}
 use Rattle.run_laws.proofs.ReportLaw.{told}
 use Rattle.trace_parts.specs.declared.restored.Restored.{Restored}
-use Rattle.trace_parts.specs.declared.restored.Restored.TheVariants.{Found, Lost}
-use Rattle.trace_parts.specs.Held.{HeldTrace, events_in, has_label}
+use Rattle.trace_parts.specs.declared.restored.Restored.TheVariants.{Found}
+use Rattle.trace_parts.specs.Held.{HeldTrace, has_label}
 use Rattle.trace_parts.specs.Sought.{Seen, restored, first_held, first_in}
 use Rattle.trace_parts.proofs.FirstLaws.{first_of_all, lost_where_not_held}
 use Rattle.report_laws.specs.Sound.{IsSound, TellsAddresses}

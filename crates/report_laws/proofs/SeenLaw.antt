@@ -1,7 +1,7 @@
 -- The first sought access in a thread's trace is the first access of the history with the word on the granule.
 use Rattle.std.proofs.Common.{◌≡◌, ◌≢◌, ℕ, zero, suc, ◌+◌, ◌-◌, ◌*◌, ◌/◌, ◌^◌, ◌<◌, ◌≤◌, ◌==◌, ◌&&◌, ◌⊎◌, not, min, if◌then◌else◌, Bool, true, false, Option, Some, None, List, [], ◌∷◌, ◌++◌, length, refl, sym, ap, ap₂, subst, inl, inr, ◌∙◌, arith, eqb-true, eq-eqb, ne_eqb}
 use Rattle.std.specs.Prelude.{find, filter_map, option_map}
-use Rattle.std.specs.Option.{option_or, option_map_or}
+use Rattle.std.specs.Option.{option_or}
 use Rattle.std.specs.List.{AllZip, list_any, cons_option}
 use Rattle.std.proofs.Math.Pow.{pow_mono}
 use Rattle.std.proofs.lemmas.Nat.{pow_pos}
@@ -14,14 +14,14 @@ use Rattle.run_record.specs.declared.entry.Label.{Label}
 use Rattle.run_record.specs.declared.entry.Check.{Check}
 use Rattle.run_laws.specs.Moments.{Item, Does, Notes, NewEra, Past, Moment, moment_at, items}
 use Rattle.run_laws.specs.Numbers.{up_from}
-use Rattle.run_laws.specs.Accesses.{Access, access_of, end_of, mask_in, Part, part_in, parts_of}
+use Rattle.run_laws.specs.Accesses.{Access, access_of, end_of, mask_in, Part, part_in}
 use Rattle.run_laws.specs.Labels.{label_of}
 use Rattle.run_laws.specs.Words.{word_of}
-use Rattle.run_laws.specs.Window.{TraceEvent, Labelled, Traced, is_label, traced_by, trace_before}
+use Rattle.run_laws.specs.Window.{TraceEvent, Labelled, Traced, traced_by, trace_before}
 use Rattle.run_laws.specs.Checks.{ChecksPart, AreChecks}
 use Rattle.run_laws.specs.Candidates.{has_word}
 use Rattle.trace_parts.specs.Snapshot.{Snapshot, nothing_yet, snapshot_after, after_all}
-use Rattle.trace_parts.specs.Sought.{mask_at, leaves_word, is_under, access_in, Seen, seen_from, is_sought}
+use Rattle.trace_parts.specs.Sought.{leaves_word, is_under, Seen, seen_from, is_sought}
 use Rattle.report_laws.proofs.OnceLaw.{label_is}
 use Rattle.report_laws.proofs.StandingLaw.{traced_own, standing, Stands}
 

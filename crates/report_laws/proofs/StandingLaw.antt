@@ -1,5 +1,5 @@
 -- What stands before a position in a thread's trace: its stack, its locks and, where it has one, its label.
-use Rattle.std.proofs.Common.{◌≡◌, ℕ, zero, suc, ◌+◌, ◌<◌, ◌≤◌, ◌==◌, ◌⊎◌, Bool, true, false, if◌then◌else◌, Option, Some, None, List, [], ◌∷◌, ◌++◌, length, take, refl, sym, ap, subst, inl, inr, ◌∙◌, arith, eq-eqb, ne_eqb}
+use Rattle.std.proofs.Common.{◌≡◌, ℕ, zero, suc, ◌+◌, ◌<◌, ◌≤◌, ◌==◌, ◌⊎◌, if◌then◌else◌, Option, Some, None, List, [], ◌∷◌, ◌++◌, length, take, refl, sym, ap, subst, inl, inr, ◌∙◌, arith, eq-eqb, ne_eqb}
 use Rattle.std.specs.Prelude.{fold, filter_map, option_map, option_to_list}
 use Rattle.std.proofs.lemmas.Bool.{cases_eq}
 use Rattle.std.proofs.lemmas.List.Sums.{fold-append}
@@ -9,9 +9,8 @@ use Rattle.run_record.specs.declared.event.Event.{Event}
 use Rattle.run_record.specs.declared.event.Event.TheVariants.{Create, Release, Access, Enter, Leave, Lock, Unlock}
 use Rattle.run_record.specs.declared.entry.DeskNote.TheVariants as notes
 use Rattle.run_record.specs.declared.entry.Label.{Label}
-use Rattle.run_record.specs.declared.report.KeptLock.{KeptLock}
 use Rattle.run_laws.specs.Moments.{Item, Does, Notes, NewEra, Past, Moment, moment_at, items}
-use Rattle.run_laws.specs.Labels.{Labels, raises, can_attach, new_era, next_labels, labels, label_of}
+use Rattle.run_laws.specs.Labels.{Labels, raises, new_era, next_labels, labels, label_of}
 use Rattle.run_laws.specs.Clocks.{ChangesThread}
 use Rattle.run_laws.specs.Stacks.{event_by, events_before, frames_after, frames, locks_after, kept_locks}
 use Rattle.run_laws.specs.Window.{TraceEvent, Labelled, Traced, is_traced, traced_by, trace_before}

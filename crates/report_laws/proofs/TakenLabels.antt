@@ -6,7 +6,7 @@ use Rattle.run_record.specs.declared.entry.DeskNote.TheVariants.{Attach}
 use Rattle.run_record.specs.declared.entry.Label.{Label}
 use Rattle.run_laws.specs.Moments.{Item, Does, Notes}
 use Rattle.run_laws.specs.Labels.{Labels, raises, raised, can_attach, attach_labels, event_labels, next_labels, labels, label_of}
-use Rattle.run_laws.proofs.SlotSteps.{holds_cases, raised_stays, raised_other, slot_kept, attach_slot_here, attach_epoch_here}
+use Rattle.run_laws.proofs.SlotSteps.{raised_stays, slot_kept, attach_slot_here, attach_epoch_here}
 use Rattle.run_laws.proofs.SlotInvariant.{labels-next}
 use Rattle.run_laws.proofs.LabelLaw.{label_parts}
 

@@ -5,7 +5,8 @@
 //! is a law. The layer above keeps a `Finds` while it steps threads: along a round it collects what the
 //! threads' clocks find by `checks_law` and `collects_law`, and these are the candidates by `collected_law`;
 //! at the round's end it makes their reports by `owner_law`, `previous_law` and `reports_law`, and goes on
-//! with a longer history by `found_law` and `round_law`. `stands_law` says what each report stands for.
+//! with a longer history by `found_law` and `round_law`. `stands_law` and `races_law` say what reports stand
+//! for. The premises of all of them are those of a lawful history, by `sound_law`.
 #![tactic(auto)]
 
 mod candidates;
@@ -13,9 +14,11 @@ mod collected;
 mod grown;
 mod previous;
 mod reports;
+mod sound;
 
 pub use candidates::{checks_law, quiet_law, race_law};
 pub use collected::{collected_law, collects_law};
 pub use grown::{awaits_law, candidate_law, found_law, round_law};
 pub use previous::{owner_law, previous_law};
-pub use reports::{kept_law, reports_law, stands_law};
+pub use reports::{kept_law, races_law, reports_law, stands_law};
+pub use sound::sound_law;

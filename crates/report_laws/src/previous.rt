@@ -62,7 +62,7 @@ pub fn previous_law()
         (trace : HeldTrace) → IsTraceOf limits (moments entries) u trace →
         (t : ℕ) (access : Access) → MakesAccess (moments entries) n t access →
         IsReport limits address_of (moments entries) n check.granule word (record {
-            mine = told_side (moments entries) n t access;
-            previous = previous_side address_of check.granule word u (restored (first_held trace.held (label_in word) (address_of check.granule) word));
+          mine = told_side (moments entries) n t access;
+          previous = previous_side address_of check.granule word u (restored (first_held trace.held (label_in word) (address_of check.granule) word));
         }) }
 {}
