@@ -11,3 +11,4 @@ pub mod AwaitedLaw
 pub mod RaceReports
 pub mod CheckRaces
 pub mod CollectedLaw
+pub mod NextRound
