@@ -17,9 +17,9 @@ use Rattle.run_laws.specs.Reports.{told_side, IsReport, Finds}
 use Rattle.run_laws.specs.Reports as reports
 use Rattle.run_laws.proofs.SlotInvariant.{era_mono}
 use Rattle.report_laws.specs.Sound.{IsSound, TellsAddresses}
-use Rattle.report_laws.specs.Awaited.{Awaited, Awaits, Start, Quiet, Race, HasOwner, IsToldBy}
+use Rattle.report_laws.specs.Awaited.{Awaited, Awaits, Start, Quiet, Race, HasOwner, IsRestorable, IsToldBy}
 use Rattle.report_laws.proofs.OwnedLabels.{owner, own_era}
-use Rattle.report_laws.proofs.PreviousLaw.{report_told}
+use Rattle.report_laws.proofs.PreviousLaw.{restorable, report_told}
 
 awaits-le : (g : ℕ) (h : List Moment) (from n : ℕ) (waiting : List Awaited) → Awaits g h from n waiting → from ≤ n
 awaits-le g h from _ _ Start = omega arith
@@ -68,6 +68,15 @@ same_report : (r : Report) (mine previous : Side) → r.mine ≡ mine → r.prev
 same_report r mine previous a b = let e : ◌≡◌ {A = Report} (record { mine = mine; previous = previous }) (record { mine = r.mine; previous = r.previous }) = rw (a, b) refl in e
 
 module _ (limits : Limits) (granule_of : ℕ → Option ℕ) (address_of : ℕ → ℕ) (needs_slot : ℕ → Bool) (entries : List Entry) (sound : IsSound limits granule_of needs_slot entries) (addresses : TellsAddresses granule_of address_of) where
+  -- each can be sought in a trace
+  pub all_restorable : (from n : ℕ) (waiting : List Awaited) → Awaits limits.epochs (moments entries) from n waiting → All (IsRestorable limits granule_of address_of (moments entries)) waiting
+  all_restorable from _ _ Start = All-nil (IsRestorable limits granule_of address_of (moments entries))
+  all_restorable from _ _ (Quiet {n = n} {waiting = ws} a none) = all_restorable from n ws a
+  all_restorable from _ _ (Race {n = n} {waiting = ws} c w t a before k made) =
+      let P = IsRestorable limits granule_of address_of (moments entries) in
+      let one : Awaited = record { mine = told_side (moments entries) n t a; granule = c.granule; word = w } in
+      All-append P ws (one ∷ []) (all_restorable from n ws before) (All-cons P one [] (restorable limits granule_of address_of needs_slot entries sound addresses n c w k (told_side (moments entries) n t a)) (All-nil P))
+
   pub found_after :
       (from n : ℕ) (found : List Report) → Finds limits address_of (moments entries) from found →
       ((k : ℕ) → from ≤ k → k < n → round_end (moments entries) (moment_at (moments entries) k).round ≡ length (moments entries)) →

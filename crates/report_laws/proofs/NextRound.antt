@@ -1,5 +1,5 @@
 -- A history goes on by one round.
-use Rattle.std.proofs.Common.{◌≡◌, ℕ, ◌+◌, ◌-◌, ◌<◌, ◌≤◌, Bool, Option, List, [], ◌++◌, length, length-append, refl, sym, ap, subst, ◌∙◌, arith}
+use Rattle.std.proofs.Common.{◌≡◌, ℕ, ◌-◌, ◌<◌, ◌≤◌, Bool, Option, List, [], ◌++◌, length, length-append, refl, ap, ◌∙◌, arith}
 use Rattle.std.specs.Prelude.{All}
 use Rattle.std.specs.List.{AllZip}
 use Rattle.std.proofs.Math.ListN.{get_or-append}
@@ -14,10 +14,10 @@ use Rattle.run_laws.specs.Present.{labels_now}
 use Rattle.run_laws.specs.Reports.{Finds}
 use Rattle.run_laws.proofs.PresentLaw.{labels_stay}
 use Rattle.report_laws.specs.Sound.{IsSound, TellsAddresses}
-use Rattle.report_laws.specs.Awaited.{Awaited, Collects, HasOwner, IsToldBy}
+use Rattle.report_laws.specs.Awaited.{Awaited, Collects, HasOwner, IsRestorable, IsToldBy}
 use Rattle.report_laws.proofs.GrownLaw.{found_stay, last_round}
 use Rattle.report_laws.proofs.CandidateSteps.{quiet_finds}
-use Rattle.report_laws.proofs.AwaitedLaw.{owners, found_after}
+use Rattle.report_laws.proofs.AwaitedLaw.{owners, all_restorable, found_after}
 use Rattle.report_laws.proofs.CollectedLaw.{collected}
 
 -- the beginnings of eras have no checks
@@ -42,10 +42,14 @@ module _ (limits : Limits) (granule_of : ℕ → Option ℕ) (needs_slot : ℕ �
   pub round_owners : (labels_now limits.epochs (moments_in round era entries)).era ≡ (labels_now limits.epochs h).era → (waiting : List Awaited) → Collects limits.epochs h from (length h) waiting → All (HasOwner limits.epochs h) waiting
   round_owners same waiting c =
       let start : labels limits.epochs (items h) from ≡ labels_now limits.epochs (moments_in round era entries) =
-          ap (λ (x : List Moment). labels limits.epochs (items x) from) cut ∙ labels_stay limits.epochs (moments_in round era entries) rest from (omega arith)
+      ap (λ (x : List Moment). labels limits.epochs (items x) from) cut ∙ labels_stay limits.epochs (moments_in round era entries) rest from (omega arith)
       in
       owners limits granule_of needs_slot (entries ++ last) sound from (length h) waiting
       (collected limits granule_of needs_slot (entries ++ last) sound from (length h) waiting c) (omega arith) (ap (λ (x : Labels). x.era) start ∙ same)
+
+  pub round_restorable : (address_of : ℕ → ℕ) → TellsAddresses granule_of address_of → (waiting : List Awaited) → Collects limits.epochs h from (length h) waiting → All (IsRestorable limits granule_of address_of h) waiting
+  round_restorable address_of addresses waiting c =
+      all_restorable limits granule_of address_of needs_slot (entries ++ last) sound addresses from (length h) waiting (collected limits granule_of needs_slot (entries ++ last) sound from (length h) waiting c)
 
   pub round_found :
       (address_of : ℕ → ℕ) → TellsAddresses granule_of address_of → All (λ (e : Entry). e.round < round) entries → All (λ (e : Entry). e.round ≡ round) last → (found : List Report) → Finds limits address_of (moments entries) (length (moments entries)) found →

@@ -13,14 +13,14 @@ use Rattle.run_laws.specs.Moments.{Does, Notes, Past, Moment, moment_at, items, 
 use Rattle.run_laws.specs.Numbers.{up_from}
 use Rattle.run_laws.specs.Labels.{labels, label_of}
 use Rattle.run_laws.specs.Accesses.{Access, access_of, end_of, mask_in}
-use Rattle.run_laws.specs.Words.{word_of, sid, epoch, era, is_read, is_atomic, label_in}
+use Rattle.run_laws.specs.Words.{word_of, mask, sid, epoch, era, is_read, is_atomic, label_in}
 use Rattle.run_laws.specs.Checks.{ChecksPart, AreChecks}
 use Rattle.run_laws.specs.Candidates.{has_word, TellLabels, IsCandidate}
 use Rattle.run_laws.specs.Reports.{first_with}
 use Rattle.run_laws.proofs.OwnerLaw.{later_owner}
 use Rattle.run_laws.proofs.QueueLaw.{attaches, slots_within}
 use Rattle.run_laws.proofs.EpochRange.{labels_fit}
-use Rattle.run_laws.proofs.WordLaw.{sid-word_of, epoch-word_of, era-word_of, is_read-word_of, is_atomic-word_of}
+use Rattle.run_laws.proofs.WordLaw.{mask-word_of, sid-word_of, epoch-word_of, era-word_of, is_read-word_of, is_atomic-word_of}
 use Rattle.run_laws.proofs.LabelLaw.{found_in, label_parts, takes_front, no_any, tell_labels}
 use Rattle.run_laws.proofs.CandidateLaw.{opposes_parts}
 use Rattle.run_laws.proofs.FindLaw.{has_own_word, loaded_from}
@@ -64,6 +64,7 @@ pub record LeftIn (g : ℕ) (granule_of : ℕ → Option ℕ) (h : List Moment) 
   pub granule_is : granule_of (8 * block) ≡ Some granule
   pub labelled : label_of g (items h) x t ≡ Some (label_in w)
   pub leaves : leaves_word (label_in w) (8 * block) w a ≡ true
+  pub bytes : mask w ≢ 0
   pub read_is : is_read w ≡ a.read
   pub atomic_is : is_atomic w ≡ a.atomic
 
@@ -118,14 +119,15 @@ module _ (limits : Limits) (granule_of : ℕ → Option ℕ) (needs_slot : ℕ �
       let r : epoch w ≡ f.goes.label.epoch = subst (λ y. epoch y ≡ f.goes.label.epoch) told (epoch-word_of f.part.mask f.goes.label a.read a.atomic f.small small short) in
       let i : era w ≡ f.goes.label.era = subst (λ y. era y ≡ f.goes.label.era) told (era-word_of f.part.mask f.goes.label a.read a.atomic f.small small short) in
       let label : f.goes.label ≡ label_in w = same_label f.goes.label (label_in w) (sym s) (sym r) (sym i) in
-      let mask : f.part.mask ≡ mask_in a f.block = f.of_block.mask_is in
-      let some : mask_in a f.block ≢ 0 = (λ z. f.of_block.some (mask ∙ z)) in
-      let left : word_of (mask_in a f.block) (label_in w) a.read a.atomic ≡ w = subst (λ m. word_of m (label_in w) a.read a.atomic ≡ w) mask (subst (λ (x : Label). word_of f.part.mask x a.read a.atomic ≡ w) label told) in
+      let same_mask : f.part.mask ≡ mask_in a f.block = f.of_block.mask_is in
+      let some : mask_in a f.block ≢ 0 = (λ z. f.of_block.some (same_mask ∙ z)) in
+      let left : word_of (mask_in a f.block) (label_in w) a.read a.atomic ≡ w = subst (λ m. word_of m (label_in w) a.read a.atomic ≡ w) same_mask (subst (λ (x : Label). word_of f.part.mask x a.read a.atomic ≡ w) label told) in
       record {
         block = f.block;
         granule_is = f.of_block.granule_is ∙ ap Some (sym f.goes.granule ∙ on);
         labelled = f.goes.labelled ∙ ap Some label;
         leaves = and_from (not (mask_in a f.block == 0)) (word_of (mask_in a f.block) (label_in w) a.read a.atomic == w) (some_mask (mask_in a f.block) some) (eq-eqb (word_of (mask_in a f.block) (label_in w) a.read a.atomic) w left);
+        bytes = λ z. f.of_block.some (sym (subst (λ y. mask y ≡ f.part.mask) told (mask-word_of f.part.mask f.goes.label a.read a.atomic f.small)) ∙ z);
         read_is = subst (λ y. is_read y ≡ a.read) told (is_read-word_of f.part.mask f.goes.label a.read a.atomic f.small small short);
         atomic_is = subst (λ y. is_atomic y ≡ a.atomic) told (is_atomic-word_of f.part.mask f.goes.label a.read a.atomic f.small small short);
       }

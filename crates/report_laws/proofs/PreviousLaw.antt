@@ -26,10 +26,11 @@ use Rattle.trace_parts.specs.Sought.{Seen, restored, first_held, first_in}
 use Rattle.trace_parts.proofs.FirstLaws.{first_of_all, lost_where_not_held}
 use Rattle.report_laws.specs.Sound.{IsSound, TellsAddresses}
 use Rattle.report_laws.specs.Owners.{IsLabelOf, IsTraceOf, previous_side}
+use Rattle.report_laws.specs.Awaited.{IsRestorable}
 use Rattle.report_laws.proofs.StandingLaw.{Stands, standing, stands}
 use Rattle.report_laws.proofs.OnceLaw.{once}
 use Rattle.report_laws.proofs.SeenLaw.{first_found}
-use Rattle.report_laws.proofs.OwnedLabels.{attached, one_thread, first_has, has_within, left_in, label_of_maker}
+use Rattle.report_laws.proofs.OwnedLabels.{slot, attached, one_thread, first_has, has_within, left_in, label_of_maker}
 
 -- a trace has the labels that are held
 pub has_held : (limits : Limits) (h : List Moment) (u : ℕ) (trace : HeldTrace) → IsTraceOf limits h u trace → (l : Label) → has_label trace l ≡ is_held limits (trace_now limits.epochs h u) l
@@ -107,6 +108,20 @@ module _ (limits : Limits) (granule_of : ℕ → Option ℕ) (address_of : ℕ �
       let r = some_report.1 in
       let same = one_owner r.first u r.other r.other_access r.first_is r.other_made owned in
       some_held limits granule_of address_of needs_slot entries sound addresses c.granule w r.first u r.other_access (subst (λ v. MakesAccess (moments entries) r.first v r.other_access) same r.other_made) r.first_is trace of
+
+  -- and what else the trace is asked by
+  pub restorable : (mine : Side) → IsRestorable limits granule_of address_of (moments entries) (record { mine = mine; granule = c.granule; word = w })
+  restorable mine =
+      let r = some_report.1 in
+      let a = r.other_access in
+      let left = left_in limits granule_of needs_slot entries sound r.first r.other (events.Access a.place a.addr a.size a.read a.atomic) a r.other_made refl c.granule w (first_has (moments entries) c.granule w r.first r.first_is).0 in
+      record {
+        block = left.block;
+        granule_is = left.granule_is;
+        slot = slot limits granule_of needs_slot entries sound n c w candidate;
+        bytes = left.bytes;
+        stands = λ u trace owned of. stands_in_trace u owned trace of;
+      }
 
   pub report_told :
       round_end (moments entries) (moment_at (moments entries) n).round ≡ length (moments entries) →

@@ -1,16 +1,16 @@
 -- Candidates that await the end of their round, and the reports that are then made of them.
-use Rattle.std.specs.Prelude.{◌≡◌, ℕ, suc, List, [], ◌∷◌, ◌++◌, Some, None}
+use Rattle.std.specs.Prelude.{◌≡◌, ◌≢◌, ◌<◌, ◌*◌, ℕ, suc, true, List, [], ◌∷◌, ◌++◌, Option, Some, None, IsSome}
 use Rattle.run_record.specs.declared.entry.Check.{Check}
 use Rattle.run_record.specs.declared.limits.Limits.{Limits}
 use Rattle.run_record.specs.declared.report.Report.{Report}
 use Rattle.run_record.specs.declared.report.Side.{Side}
 use Rattle.run_laws.specs.Moments.{Moment, moment_at}
 use Rattle.run_laws.specs.Accesses.{Access}
-use Rattle.run_laws.specs.Words.{era, label_in}
+use Rattle.run_laws.specs.Words.{mask, sid, era, label_in}
 use Rattle.run_laws.specs.Present.{labels_now}
 use Rattle.run_laws.specs.Candidates.{IsCandidate}
 use Rattle.run_laws.specs.Reports.{MakesAccess, told_side}
-use Rattle.trace_parts.specs.Held.{HeldTrace}
+use Rattle.trace_parts.specs.Held.{HeldTrace, has_label}
 use Rattle.trace_parts.specs.Sought.{restored, first_held}
 use Rattle.report_laws.specs.Sound.{first_race}
 use Rattle.report_laws.specs.Owners.{IsLabelOf, IsTraceOf, previous_side}
@@ -53,6 +53,18 @@ pub record HasOwner (g : ℕ) (h : List Moment) (one : Awaited) : Type 0 where
   pub tid : ℕ
   pub label_of : IsLabelOf g h tid (label_in one.word)
   pub present : era one.word ≡ (labels_now g h).era
+
+-- The candidate's granule is one of memory, and its word tells one of the slots and some bytes. And where the trace of
+-- the thread that the word's label is of has the label, it has an access under it with the word on the granule.
+pub record IsRestorable (limits : Limits) (granule_of : ℕ → Option ℕ) (address_of : ℕ → ℕ) (h : List Moment) (one : Awaited) : Type 0 where
+  pub block : ℕ
+  pub granule_is : granule_of (8 * block) ≡ Some one.granule
+  pub slot : sid one.word < limits.slots
+  pub bytes : mask one.word ≢ 0
+  pub stands :
+      (u : ℕ) (trace : HeldTrace) → IsLabelOf limits.epochs h u (label_in one.word) → IsTraceOf limits h u trace →
+      has_label trace (label_in one.word) ≡ true →
+      IsSome (first_held trace.held (label_in one.word) (address_of one.granule) one.word)
 
 -- The report is what the trace of the thread that the word's label is of tells in the end.
 pub record IsToldBy (limits : Limits) (address_of : ℕ → ℕ) (h : List Moment) (one : Awaited) (report : Report) : Type 0 where

@@ -9,11 +9,11 @@ ghost use Rattle.run_laws.specs.Moments.{Moment, moments, moments_in};
 ghost use Rattle.run_laws.specs.Present.{labels_now};
 ghost use Rattle.run_laws.specs.Reports.{Finds};
 ghost use Rattle.report_laws.specs.Sound.{IsSound, TellsAddresses};
-ghost use Rattle.report_laws.specs.Awaited.{Awaited, Collects, HasOwner, IsToldBy};
+ghost use Rattle.report_laws.specs.Awaited.{Awaited, Collects, HasOwner, IsRestorable, IsToldBy};
 
 /// A history goes on by the entries of one round, which begins in an era, and `waiting` is what the clocks found in it.
-/// Where the round ends in this era, the label of each of them is a thread's and of the present era. And the reports that
-/// the traces of these threads tell of them are what is found after the reports of the earlier rounds.
+/// Where the round ends in this era, the label of each of them is a thread's and of the present era. Each can be sought in
+/// the trace of this thread. And the reports that these traces tell are what is found after those of the earlier rounds.
 pub fn next_round_law()
     ensures owners { (limits : Limits) (granule_of : ℕ → Option ℕ) (needs_slot : ℕ → Bool) (entries last : List Entry) (round era : ℕ) (rest : List Moment) →
         IsSound limits granule_of needs_slot (entries ++ last) →
@@ -22,6 +22,11 @@ pub fn next_round_law()
         (waiting : List Awaited) →
         Collects limits.epochs (moments (entries ++ last)) (length (moments_in round era entries)) (length (moments (entries ++ last))) waiting →
         All (HasOwner limits.epochs (moments (entries ++ last))) waiting }
+    ensures restorable { (limits : Limits) (granule_of : ℕ → Option ℕ) (address_of : ℕ → ℕ) (needs_slot : ℕ → Bool) (entries last : List Entry) (round era : ℕ) (rest : List Moment) →
+        IsSound limits granule_of needs_slot (entries ++ last) → TellsAddresses granule_of address_of →
+        moments (entries ++ last) ≡ moments_in round era entries ++ rest → (waiting : List Awaited) →
+        Collects limits.epochs (moments (entries ++ last)) (length (moments_in round era entries)) (length (moments (entries ++ last))) waiting →
+        All (IsRestorable limits granule_of address_of (moments (entries ++ last))) waiting }
     ensures found { (limits : Limits) (granule_of : ℕ → Option ℕ) (address_of : ℕ → ℕ) (needs_slot : ℕ → Bool) (entries last : List Entry) (round era : ℕ) (rest : List Moment) →
         IsSound limits granule_of needs_slot (entries ++ last) → TellsAddresses granule_of address_of →
         All (λ (e : Entry). e.round < round) entries → All (λ (e : Entry). e.round ≡ round) last →
