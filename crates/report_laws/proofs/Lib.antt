@@ -1,0 +1,14 @@
+pub mod TakenLabels
+pub mod StandingLaw
+pub mod OnceLaw
+pub mod SeenLaw
+pub mod OwnedLabels
+pub mod PreviousLaw
+pub mod AgreeLaw
+pub mod GrownLaw
+pub mod CandidateSteps
+pub mod AwaitedLaw
+pub mod RaceReports
+pub mod CheckRaces
+pub mod CollectedLaw
+pub mod NextRound

@@ -1,0 +1,4 @@
+pub mod Sound
+pub mod Owners
+pub mod Awaited
+pub mod Races
