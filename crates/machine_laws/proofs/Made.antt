@@ -1,5 +1,5 @@
 -- What the events of one instruction make of the threads.
-use Rattle.std.proofs.Common.{◌≡◌, ◌<◌, ◌≤◌, ℕ, Bool, true, false, cond, List, [], ◌∷◌, ◌++◌, length, slice_get, slice_set, Option, Some, None, refl, sym, ap, subst, ◌∙◌, arith}
+use Rattle.std.proofs.Common.{not, ◌≡◌, ◌<◌, ◌≤◌, ℕ, Bool, true, false, cond, List, [], ◌∷◌, ◌++◌, length, slice_get, slice_set, Option, Some, None, refl, sym, ap, subst, ◌∙◌, arith}
 use Rattle.std.specs.Prelude.{count_by, fold}
 use Rattle.std.specs.List.{list_any, list_all}
 use Rattle.run_record.specs.declared.event.Event.{Event}
@@ -12,7 +12,7 @@ use Rattle.bare_machine.specs.Step.{goes_on, stops, first_of, desk}
 use Rattle.machine_laws.specs.Threads.{Threads, but, threads_in, threads_after}
 use Rattle.machine_laws.specs.Events.{AreAllowed, is_pushed, is_local}
 use Rattle.machine_laws.specs.Steps.{IsStep}
-use Rattle.machine_laws.proofs.Lists.{but_same, same_threads, threads_of, threads_set, told_at}
+use Rattle.machine_laws.proofs.Lists.{but_at, but_same, same_threads, threads_of, threads_set, told_at}
 
 -- With these events, and that object, thread t makes these threads of those. There are at most `most` events.
 pub record Makes (harts : ℕ) (before : Threads) (t : ℕ) (es : List Event) (object : Option ℕ) (most : ℕ) (after : Threads) : Type 0 where
@@ -25,6 +25,10 @@ pub record Makes (harts : ℕ) (before : Threads) (t : ℕ) (es : List Event) (o
 -- the thread has begun
 abbrev pub begun : Threads → ℕ → Threads
 begun threads t = threads_after t threads events.Begin
+
+-- so that its next event isn't its first
+pub began_not_first : (threads : Threads) (t : ℕ) → false ≡ not ((begun threads t).began t)
+began_not_first threads t = ap not (sym (but_at threads.began t true))
 
 begun_already : (threads : Threads) (t : ℕ) → threads.began t ≡ true → begun threads t ≡ threads
 begun_already threads t e = same_threads (begun threads t) threads refl (λ u. refl) (but_same threads.began t true e) (λ u. refl)
@@ -40,7 +44,7 @@ with_begin {harts} {before} {after} {t} {es} {object} true alive e m =
     record { allowed = n.allowed; after_is = n.after_is; few = (let h = n.few in omega arith); few_pushed = n.few_pushed; without_object = n.without_object }
 with_begin {harts} {before} {after} {t} {es} {object} false alive e m =
     record {
-      allowed = (record { alive = alive; may = e; last = λ f. absurd (cc) }, m.allowed);
+      allowed = (record { alive = alive; first = ap not (sym e); may = tt; last = λ f. absurd (cc) }, m.allowed);
       after_is = m.after_is;
       few = (let h = m.few in omega arith);
       few_pushed = m.few_pushed;
@@ -88,9 +92,9 @@ ends_threads ts t x y is within dead began depth =
     same_threads _ _ refl (λ u. ap (λ (b : Bool). but (threads_of ts).lives t b u) dead) (λ u. ap (λ (b : Bool). but (threads_of ts).began t b u) began)
     (but_same (threads_of ts).depth t y.depth (told_at (λ (z : Thread). z.depth) 0 ts t x is ∙ sym depth))
 
-pub end_makes : (harts : ℕ) (threads : Threads) (t : ℕ) → threads.lives t ≡ true → Makes harts threads t (events.End ∷ []) (Some desk) 3 (threads_after t threads events.End)
-end_makes harts threads t alive =
-    record { allowed = (record { alive = alive; may = tt; last = λ e. refl }, tt); after_is = refl; few = omega arith; few_pushed = omega arith; without_object = λ e. absurd (cc) }
+pub end_makes : (harts : ℕ) (threads : Threads) (t : ℕ) → threads.lives t ≡ true → false ≡ not (threads.began t) → Makes harts threads t (events.End ∷ []) (Some desk) 3 (threads_after t threads events.End)
+end_makes harts threads t alive first =
+    record { allowed = (record { alive = alive; first = first; may = tt; last = λ e. refl }, tt); after_is = refl; few = omega arith; few_pushed = omega arith; without_object = λ e. absurd (cc) }
 
 first_stays : (ended end : Option GuestEnd) (e : GuestEnd) → ended ≡ Some e → first_of ended end ≡ Some e
 first_stays None end e h = absurd (cc)
@@ -105,7 +109,7 @@ pub stopping : (w : World) (t : ℕ) (x : Thread) (end : Option GuestEnd) → sl
 stopping w t x end is within alive =
     let lives = told_at (λ (z : Thread). z.lives) false w.threads t x is ∙ alive in
     let began = told_at (λ (z : Thread). z.began) false w.threads t x is in
-    let n = with_begin x.began lives began (end_makes w.harts (begun (threads_in w) t) t lives) in
+    let n = with_begin x.began lives began (end_makes w.harts (begun (threads_in w) t) t lives (began_not_first (threads_in w) t)) in
     record {
       harts_stay = refl;
       allowed = n.allowed;

@@ -1,5 +1,5 @@
 -- What each call, each instruction and each step of a living thread does.
-use Rattle.std.proofs.Common.{◌≡◌, ◌<◌, ◌≤◌, ◌+◌, ◌-◌, ◌≢◌, ℕ, Bool, true, false, cond, nat_eq, nat_le, List, [], ◌∷◌, ◌++◌, length, slice_get, slice_set, Option, Some, None, refl, sym, ap, subst, ◌∙◌, arith, ne_eqb, take, unwrap_or}
+use Rattle.std.proofs.Common.{not, ◌≡◌, ◌<◌, ◌≤◌, ◌+◌, ◌-◌, ◌≢◌, ℕ, Bool, true, false, cond, nat_eq, nat_le, List, [], ◌∷◌, ◌++◌, length, slice_get, slice_set, Option, Some, None, refl, sym, ap, subst, ◌∙◌, arith, ne_eqb, take, unwrap_or}
 use Rattle.std.specs.Prelude.{count_by, ◌%◌, ◌||◌, option_map, is_some, slice_index}
 use Rattle.std.specs.Int.{w64, to_le_bytes}
 use Rattle.std.proofs.lemmas.Bool.{cond_both, eqb-false, leb-false, or_parts}
@@ -31,7 +31,7 @@ use Rattle.bare_machine.proofs.StepLemmas.{living, within}
 use Rattle.machine_laws.specs.Threads.{Threads, but, is_full, threads_in, threads_after, AreThreads}
 use Rattle.machine_laws.specs.Steps.{IsStep}
 use Rattle.machine_laws.proofs.Lists.{but_same, same_threads, threads_of, threads_set, threads_push, set_set, set_append, get_set_same, told_at, living_is}
-use Rattle.machine_laws.proofs.Made.{Makes, begun, going, stopping, goes_threads, stays_threads}
+use Rattle.machine_laws.proofs.Made.{began_not_first, Makes, begun, going, stopping, goes_threads, stays_threads}
 use Rattle.machine_laws.proofs.Calls as made
 use Rattle.machine_laws.proofs.Sizes.{IsSized, IsSizedIfAny, call_sized}
 
@@ -59,6 +59,9 @@ module _ (file : List ℕ) (w : World) (t : ℕ) (x : Thread) (is : slice_get w.
 
   began_here : (threads_in w).began t ≡ x.began
   began_here = told_at (λ (z : Thread). z.began) false w.threads t x is
+
+  first_here : false ≡ not (now.began t)
+  first_here = began_not_first (threads_in w) t
 
   depth_here : (threads_in w).depth t ≡ x.depth
   depth_here = told_at (λ (z : Thread). z.depth) 0 w.threads t x is
@@ -98,7 +101,7 @@ module _ (file : List ℕ) (w : World) (t : ℕ) (x : Thread) (is : slice_get w.
       ∙ (ap (λ (n : ℕ). threads_after t (threads_of (slice_set w.threads t y)) (events.Create n)) (length-set w.threads t y)
       ∙ ap (λ (z : Threads). threads_after t z (events.Create (length w.threads))) (stays_threads w.threads t x y is inside alive alive refl refl))) in
       let m : Makes w.harts now t (events.Create (length w.threads) ∷ []) (Some desk) 3 (threads_after t now (events.Create (length w.threads))) =
-      made.create_makes w.harts now t lives_here (length w.threads) desk (record { next = refl; below = below; room = sym full_is ∙ room }) in
+      made.create_makes w.harts now t lives_here first_here (length w.threads) desk (record { next = refl; below = below; room = sym full_is ∙ room }) in
       going w (record w { threads = w.threads ++ new ∷ [] }) t (answered x (Some (length w.threads))) (cond (nat_eq (length w.threads) full) [] (events.Create (length w.threads) ∷ [])) (Some desk)
       (threads_after t now (events.Create (length w.threads))) lives_here began_here refl refl threads
       (subst (λ (es : List Event). Makes w.harts now t es (Some desk) 3 (threads_after t now (events.Create (length w.threads)))) (sym some) m)
@@ -107,17 +110,17 @@ module _ (file : List ℕ) (w : World) (t : ℕ) (x : Thread) (is : slice_get w.
   create_is pc argument stack =
       cond_both (steps.is_full w) (returns w t x (calls.Create pc argument stack) (Some (minus 11)) (Some desk))
       (returns (record w { threads = w.threads ++ new_thread pc argument stack ∷ [] }) t x (calls.Create pc argument stack) (Some (length w.threads)) (Some desk)) IsOf
-      (λ e. returns_is w (calls.Create pc argument stack) (Some (minus 11)) (Some desk) refl refl refl (made.no_event w.harts now t lives_here (Some desk)))
+      (λ e. returns_is w (calls.Create pc argument stack) (Some (minus 11)) (Some desk) refl refl refl (made.no_event w.harts now t lives_here first_here (Some desk)))
       (λ e. created pc argument stack e)
 
   -- ---- joins
 
   joined : (of : ℕ) (o : Option Thread) → slice_get w.threads of ≡ o → Makes w.harts now t (cond (nat_eq (join_answer o) 0) (events.Join of ∷ []) []) (Some desk) 3 now
-  joined of None e = made.no_event w.harts now t lives_here (Some desk)
+  joined of None e = made.no_event w.harts now t lives_here first_here (Some desk)
   joined of (Some z) e =
       cond_both z.lives (minus 16) 0 (λ (n : ℕ). Makes w.harts now t (cond (nat_eq n 0) (events.Join of ∷ []) []) (Some desk) 3 now)
-      (λ l. made.no_event w.harts now t lives_here (Some desk))
-      (λ l. made.join_makes w.harts now t lives_here of desk (record { made = within w.threads of z e; ended = told_at (λ (y : Thread). y.lives) false w.threads of z e ∙ l }))
+      (λ l. made.no_event w.harts now t lives_here first_here (Some desk))
+      (λ l. made.join_makes w.harts now t lives_here first_here of desk (record { made = within w.threads of z e; ended = told_at (λ (y : Thread). y.lives) false w.threads of z e ∙ l }))
 
   -- ---- functions entered and left
 
@@ -135,10 +138,10 @@ module _ (file : List ℕ) (w : World) (t : ℕ) (x : Thread) (is : slice_get w.
       (λ e.
       let below : x.depth < 4096 = leb-false 4096 x.depth e in
       at_depth (calls.Enter pc) (x.depth + 1) (threads_after t now (events.Enter pc)) (ap (λ (n : ℕ). record now { depth = but now.depth t (n + 1) }) (sym depth_here))
-      (made.enter_makes w.harts now t lives_here pc (subst (λ (n : ℕ). n < 4096) (sym depth_here) below)))
+      (made.enter_makes w.harts now t lives_here first_here pc (subst (λ (n : ℕ). n < 4096) (sym depth_here) below)))
 
   leave_is : IsOf (returns_at w t x calls.Leave (x.depth - 1))
-  leave_is = at_depth calls.Leave (x.depth - 1) (threads_after t now events.Leave) (ap (λ (n : ℕ). record now { depth = but now.depth t (n - 1) }) (sym depth_here)) (made.leave_makes w.harts now t lives_here)
+  leave_is = at_depth calls.Leave (x.depth - 1) (threads_after t now events.Leave) (ap (λ (n : ℕ). record now { depth = but now.depth t (n - 1) }) (sym depth_here)) (made.leave_makes w.harts now t lives_here first_here)
 
   -- ---- accesses and atomic operations
 
@@ -146,8 +149,8 @@ module _ (file : List ℕ) (w : World) (t : ℕ) (x : Thread) (is : slice_get w.
   access_is addr size read few =
       returns_is w (calls.Access addr size read) None None refl refl refl
       (cond_both (nat_eq size 0) [] (events.Access (before (value x.regs 1)) addr size read false ∷ []) (λ (es : List Event). Makes w.harts now t es None 3 now)
-      (λ e. made.no_event w.harts now t lives_here None)
-      (λ e. let other : size ≢ 0 = eqb-false size 0 e in made.access_makes w.harts now t lives_here (before (value x.regs 1)) addr size read (record { some = omega (arith, other); few = few })))
+      (λ e. made.no_event w.harts now t lives_here first_here None)
+      (λ e. let other : size ≢ 0 = eqb-false size 0 e in made.access_makes w.harts now t lives_here first_here (before (value x.regs 1)) addr size read (record { some = omega (arith, other); few = few })))
 
   module _ (op : AtomicOp) (size addr v expected order fail_order : ℕ) (some : 1 ≤ size) (few : size ≤ 8) where
     abbrev call : Call
@@ -156,7 +159,7 @@ module _ (file : List ℕ) (w : World) (t : ℕ) (x : Thread) (is : slice_get w.
     atomic_returns_is : (u : World) (wrote : Bool) (old : ℕ) → u.harts ≡ w.harts → u.ended ≡ w.ended → u.threads ≡ w.threads → IsOf (atomic_returns u t x call addr wrote old)
     atomic_returns_is u wrote old harts ended threads =
         goes u (answered x (answer_by call old)) (events_by call (outcome x wrote 0)) (Some (stripe addr)) (answered_alike x (answer_by call old)) harts ended threads
-        (made.atomic_makes w.harts now t lives_here op wrote (before (value x.regs 1)) addr size order fail_order (stripe addr) (record { some = some; few = omega (arith, few) }))
+        (made.atomic_makes w.harts now t lives_here first_here op wrote (before (value x.regs 1)) addr size order fail_order (stripe addr) (record { some = some; few = omega (arith, few) }))
 
     at_granule : (g : ℕ) → IsOf (atomic_at_granule w t x call addr size g)
     at_granule g =
@@ -182,32 +185,32 @@ module _ (file : List ℕ) (w : World) (t : ℕ) (x : Thread) (is : slice_get w.
 
   call_is : (c : Call) → IsSized c → IsOf (call_step file w t x c)
   call_is (calls.Put word count) s =
-      returns_is (record w { output = w.output ++ take count (to_le_bytes w64 word) }) (calls.Put word count) (Some 0) (Some desk) refl refl refl (made.put_makes w.harts now t lives_here word count desk)
+      returns_is (record w { output = w.output ++ take count (to_le_bytes w64 word) }) (calls.Put word count) (Some 0) (Some desk) refl refl refl (made.put_makes w.harts now t lives_here first_here word count desk)
   call_is (calls.Exit status) s = stopping w t x (Some (ends.Exit status)) is inside alive
   call_is (calls.Create pc argument stack) s = create_is pc argument stack
   call_is calls.ThreadExit s = stopping w t x None is inside alive
   call_is (calls.Join of) s = returns_is w (calls.Join of) (Some (join_answer (slice_get w.threads of))) (Some desk) refl refl refl (joined of (slice_get w.threads of) refl)
-  call_is calls.Yield s = returns_is w calls.Yield (Some 0) None refl refl refl (made.no_event w.harts now t lives_here None)
+  call_is calls.Yield s = returns_is w calls.Yield (Some 0) None refl refl refl (made.no_event w.harts now t lives_here first_here None)
   call_is (calls.Access addr size read) s = access_is addr size read s
   call_is (calls.Enter pc) s = enter_is pc
   call_is calls.Leave s = leave_is
   call_is (calls.Atomic op size addr v expected order fail_order) s = atomic_is op size addr v expected order fail_order s.0 s.1
-  call_is calls.Fence s = returns_is w calls.Fence None None refl refl refl (made.no_event w.harts now t lives_here None)
-  call_is (calls.Acquire addr) s = returns_is w (calls.Acquire addr) None (Some (stripe addr)) refl refl refl (made.acquire_makes w.harts now t lives_here addr Main (stripe addr))
-  call_is (calls.Release addr) s = returns_is w (calls.Release addr) None (Some (stripe addr)) refl refl refl (made.release_makes w.harts now t lives_here addr Main false (stripe addr))
-  call_is calls.MutexCreate s = returns_is w calls.MutexCreate None None refl refl refl (made.no_event w.harts now t lives_here None)
-  call_is (calls.MutexDestroy addr) s = returns_is w (calls.MutexDestroy addr) None (Some (stripe addr)) refl refl refl (made.destroy_makes w.harts now t lives_here addr (stripe addr))
-  call_is (calls.PostLock addr true) s = returns_is w (calls.PostLock addr true) None (Some (stripe addr)) refl refl refl (made.lock_makes w.harts now t lives_here addr (stripe addr) true)
-  call_is (calls.PostLock addr false) s = returns_is w (calls.PostLock addr false) None (Some (stripe addr)) refl refl refl (made.write_lock_makes w.harts now t lives_here addr (stripe addr))
-  call_is (calls.PreUnlock addr true) s = returns_is w (calls.PreUnlock addr true) None (Some (stripe addr)) refl refl refl (made.unlock_makes w.harts now t lives_here addr (stripe addr) true Readers false)
-  call_is (calls.PreUnlock addr false) s = returns_is w (calls.PreUnlock addr false) None (Some (stripe addr)) refl refl refl (made.unlock_makes w.harts now t lives_here addr (stripe addr) false Main true)
+  call_is calls.Fence s = returns_is w calls.Fence None None refl refl refl (made.no_event w.harts now t lives_here first_here None)
+  call_is (calls.Acquire addr) s = returns_is w (calls.Acquire addr) None (Some (stripe addr)) refl refl refl (made.acquire_makes w.harts now t lives_here first_here addr Main (stripe addr))
+  call_is (calls.Release addr) s = returns_is w (calls.Release addr) None (Some (stripe addr)) refl refl refl (made.release_makes w.harts now t lives_here first_here addr Main false (stripe addr))
+  call_is calls.MutexCreate s = returns_is w calls.MutexCreate None None refl refl refl (made.no_event w.harts now t lives_here first_here None)
+  call_is (calls.MutexDestroy addr) s = returns_is w (calls.MutexDestroy addr) None (Some (stripe addr)) refl refl refl (made.destroy_makes w.harts now t lives_here first_here addr (stripe addr))
+  call_is (calls.PostLock addr true) s = returns_is w (calls.PostLock addr true) None (Some (stripe addr)) refl refl refl (made.lock_makes w.harts now t lives_here first_here addr (stripe addr) true)
+  call_is (calls.PostLock addr false) s = returns_is w (calls.PostLock addr false) None (Some (stripe addr)) refl refl refl (made.write_lock_makes w.harts now t lives_here first_here addr (stripe addr))
+  call_is (calls.PreUnlock addr true) s = returns_is w (calls.PreUnlock addr true) None (Some (stripe addr)) refl refl refl (made.unlock_makes w.harts now t lives_here first_here addr (stripe addr) true Readers false)
+  call_is (calls.PreUnlock addr false) s = returns_is w (calls.PreUnlock addr false) None (Some (stripe addr)) refl refl refl (made.unlock_makes w.harts now t lives_here first_here addr (stripe addr) false Main true)
 
   told_is : (o : Option Call) → IsSizedIfAny o → IsOf (told_step file w t x o)
   told_is None s = fault_is UnknownCall
   told_is (Some c) s = call_is c s
 
   acted_is : (acted : Acted) → IsOf (acted_step file w t x acted)
-  acted_is (acts.Done object) = goes w x [] object (refl, refl, refl) refl refl refl (made.no_event w.harts now t lives_here object)
+  acted_is (acts.Done object) = goes w x [] object (refl, refl, refl) refl refl refl (made.no_event w.harts now t lives_here first_here object)
   acted_is acts.Called = told_is (call_of x.regs) (call_sized x.regs)
   acted_is (acts.Faulted fault) = fault_is fault
 

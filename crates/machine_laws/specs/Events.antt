@@ -1,5 +1,5 @@
 -- Which events a thread may make, one after another, in one instruction.
-use Rattle.std.specs.Prelude.{◌≡◌, ◌<◌, ◌≤◌, ℕ, ◌==◌, ◌||◌, Bool, true, false, List, [], ◌∷◌}
+use Rattle.std.specs.Prelude.{◌≡◌, ◌<◌, ◌≤◌, ℕ, ◌==◌, ◌||◌, not, Bool, true, false, List, [], ◌∷◌}
 use Rattle.run_record.specs.declared.event.Event.{Event}
 use Rattle.run_record.specs.declared.event.Event.TheVariants as events
 use Rattle.run_laws.specs.Labels.{raises, is_end}
@@ -23,20 +23,25 @@ pub record IsSize (size : ℕ) : Type 0 where
 
 -- what the event itself asks of the threads before it
 abbrev pub MayMake : ℕ → Threads → ℕ → Event → Type 0
-MayMake harts threads t events.Begin = threads.began t ≡ false
 MayMake harts threads t (events.Create n) = IsCreation harts threads n
 MayMake harts threads t (events.Join n) = IsJoining threads n
 MayMake harts threads t (events.Enter frame) = threads.depth t < 4096
 MayMake harts threads t (events.Access place addr size read atomic) = IsSize size
 MayMake harts threads t _ = Unit {0}
 
+abbrev pub is_begin : Event → Bool
+is_begin events.Begin = true
+is_begin _ = false
+
 -- no event of the same instruction follows one that raises the epoch, nor an End
 abbrev pub is_last : Event → Bool
 is_last e = (raises e == 1) || is_end e
 
--- With these threads before, a living thread t may make the event, and then the rest.
+-- With these threads before, thread t may make the event, and then the rest. It lives, and its first event is Begin,
+-- which no other is.
 pub record IsAllowed (harts : ℕ) (threads : Threads) (t : ℕ) (e : Event) (rest : List Event) : Type 0 where
   pub alive : threads.lives t ≡ true
+  pub first : is_begin e ≡ not (threads.began t)
   pub may : MayMake harts threads t e
   pub last : is_last e ≡ true → rest ≡ []
 
