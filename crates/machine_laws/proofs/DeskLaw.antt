@@ -1,6 +1,6 @@
 -- A desk that tells of the same threads as the machine goes on to do so.
 use Rattle.std.proofs.Common.{◌≡◌, ◌<◌, ◌≤◌, ◌+◌, ◌-◌, ◌≢◌, ℕ, zero, suc, Bool, true, false, cond, nat_eq, nat_le, nat_lt, List, [], ◌∷◌, length, get_or, set, replicate, map, Option, Some, None, refl, sym, ap, subst, ◌∙◌, arith, add-zero}
-use Rattle.std.specs.Prelude.{count_by}
+use Rattle.std.specs.Prelude.{fold, count_by}
 use Rattle.std.proofs.lemmas.Bool.{cond-false, cond-true}
 use Rattle.std.proofs.lemmas.Bool.Decides.{nat_tests}
 use Rattle.std.proofs.lemmas.List.{get_or-set_same, get_or-set_other, length-set, length-map, length-replicate}
@@ -15,8 +15,10 @@ use Rattle.slot_desk.specs.Desks.{ThreadContents, DeskContents, no_thread, threa
 use Rattle.slot_desk.specs.Steps as desks
 use Rattle.slot_desk.specs.Steps.{new_desk, created, attached_slot, after_attach, after_attach_from, spent_slot, after_detach, after_create, ended, after_end, forgotten, after_reset, join_answer}
 use Rattle.slot_desk.proofs.DeskLists.{up_from-next}
-use Rattle.bare_machine.specs.World.{start}
-use Rattle.machine_laws.specs.Threads.{Threads, living, but, is_full, threads_in, threads_after}
+use Rattle.bare_machine.specs.World.{World, start, lives}
+use Rattle.bare_machine.specs.Step.{step}
+use Rattle.machine_laws.proofs.StepLaw.{step_is}
+use Rattle.machine_laws.specs.Threads.{AreThreads, Threads, living, but, is_full, threads_in, threads_after}
 use Rattle.machine_laws.specs.Events.{IsCreation, IsJoining, IsAllowed}
 use Rattle.machine_laws.specs.Agrees.{Agrees}
 use Rattle.machine_laws.proofs.Lists.{but_each}
@@ -182,3 +184,11 @@ first_lives file limits (suc u) = none_lives 1023 u
 pub new_is : (file : List ℕ) (limits : Limits) → 1 ≤ limits.harts → Agrees limits.harts (threads_in (start file limits.harts)) (new_desk limits)
 new_is file limits h =
     record { are_threads = start_threads file limits.harts h; harts_are = refl; made_are = refl; lives_are = first_lives file limits; all_threads = ap suc (length-replicate 1023 no_thread) }
+
+-- ---- whole steps
+
+pub step_agrees : (file : List ℕ) (w : World) (t : ℕ) (d : DeskContents) → lives w t ≡ true → AreThreads w.harts (threads_in w) →
+    Agrees w.harts (fold (threads_after t) (threads_in w) (step file w t).events) d → Agrees (step file w t).world.harts (threads_in (step file w t).world) d
+step_agrees file w t d alive are a =
+    let s = step_is file w t alive are in
+    subst (λ (harts : ℕ). Agrees harts (threads_in (step file w t).world) d) (sym s.harts_stay) (subst (λ (threads : Threads). Agrees w.harts threads d) (sym s.threads_are) a)

@@ -50,16 +50,16 @@ abbrev pub AreAllowed : ℕ → Threads → ℕ → List Event → Type 0
 AreAllowed harts threads t [] = Unit {0}
 AreAllowed harts threads t (e ∷ rest) = IsAllowed harts threads t e rest × AreAllowed harts (threads_after t threads e) t rest
 
--- the thread's trace gets an event, or a label
+-- the event is traced, or its thread's new label is
 abbrev pub is_pushed : Event → Bool
 is_pushed e = is_traced e || (raises e == 1)
 
--- an output
+-- it is an output
 abbrev pub is_put : Event → Bool
 is_put (events.Put value count) = true
 is_put _ = false
 
--- of no concern to other threads but by the bytes that it touches: such are all events of an instruction without an object
+-- It reaches no clock and no other thread. All events of an instruction without an object are such.
 abbrev pub is_local : Event → Bool
 is_local events.Begin = true
 is_local (events.Enter frame) = true

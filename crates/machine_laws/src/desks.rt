@@ -1,5 +1,5 @@
 // How a desk goes on telling of the same threads as the machine.
-ghost use Rattle.std.specs.Prelude.{◌≡◌, ◌≢◌, ◌≤◌, ℕ, None, List};
+ghost use Rattle.std.specs.Prelude.{◌≡◌, ◌≢◌, ◌≤◌, ℕ, true, None, List, fold};
 ghost use Rattle.run_record.specs.declared.event.Event.{Event};
 ghost use Rattle.run_record.specs.declared.event.Event.TheVariants.{Create, End};
 ghost use Rattle.run_record.specs.declared.limits.Limits.{Limits};
@@ -8,8 +8,9 @@ ghost use Rattle.slot_desk.specs.declared.answers.Joined.TheVariants.{Done};
 ghost use Rattle.slot_desk.specs.Desks.{DeskContents, live_of, held_of};
 ghost use Rattle.slot_desk.specs.Steps as desks;
 ghost use Rattle.slot_desk.specs.Steps.{new_desk, created, after_attach, after_detach, after_create, after_end, after_reset, join_answer};
-ghost use Rattle.bare_machine.specs.World.{start};
-ghost use Rattle.machine_laws.specs.Threads.{Threads, living, threads_in, threads_after, is_full};
+ghost use Rattle.bare_machine.specs.World.{World, start, lives};
+ghost use Rattle.bare_machine.specs.Step.{step};
+ghost use Rattle.machine_laws.specs.Threads.{Threads, living, threads_in, threads_after, is_full, AreThreads};
 ghost use Rattle.machine_laws.specs.Events.{IsCreation, IsJoining, IsAllowed};
 ghost use Rattle.machine_laws.specs.Agrees.{Agrees};
 
@@ -59,4 +60,10 @@ pub fn detach_agrees()
 /// An era begins.
 pub fn reset_agrees()
     ensures { (harts : ℕ) (threads : Threads) (d : DeskContents) → Agrees harts threads d → Agrees harts threads (after_reset d) }
+{}
+
+/// A desk that tells of the threads after all events of a step tells of those of the world after it.
+pub fn step_agrees()
+    ensures { (file : List ℕ) (w : World) (t : ℕ) (d : DeskContents) → lives w t ≡ true → AreThreads w.harts (threads_in w) →
+        Agrees w.harts (fold (threads_after t) (threads_in w) (step file w t).events) d → Agrees (step file w t).world.harts (threads_in (step file w t).world) d }
 {}

@@ -12,7 +12,7 @@ mod steps;
 
 pub use desks::{
     attach_agrees, create_agrees, detach_agrees, end_agrees, full_law, join_law, new_agrees,
-    reset_agrees, stay_agrees,
+    reset_agrees, stay_agrees, step_agrees,
 };
 pub use steps::{
     alive_law, allowed_law, depth_law, kept_law, local_law, needs_law, start_law, step_law,
