@@ -1,0 +1,5 @@
+pub mod Machine
+pub mod Threads
+pub mod Events
+pub mod Steps
+pub mod Agrees
