@@ -6,3 +6,4 @@ pub mod StillLaws
 pub mod LabelSteps
 pub mod EventLaws
 pub mod FirstLaws
+pub mod PartsLaws

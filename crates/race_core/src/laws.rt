@@ -2,7 +2,7 @@
 //
 // In all of them h is a history and m its next moment. `IsWatcherAt limits h t w` says that w is the
 // watcher of thread t after h.
-ghost use Rattle.std.specs.Prelude.{◌≡◌, ◌<◌, ◌≤◌, ℕ, Some, None, false, List, [], ◌∷◌, ◌++◌, length, slice_index};
+ghost use Rattle.std.specs.Prelude.{◌≡◌, ◌≢◌, ◌<◌, ◌≤◌, ◌^◌, ℕ, Some, None, Ok, false, All, AllPairs, List, [], ◌∷◌, ◌++◌, length, slice_index};
 ghost use Rattle.run_record.specs.declared.event.Event.{Event};
 ghost use Rattle.run_record.specs.declared.event.Event.TheVariants.{End};
 ghost use Rattle.run_record.specs.declared.entry.Label.{Label};
@@ -14,6 +14,8 @@ ghost use Rattle.run_laws.specs.Labels.{Labels, raises, is_end, next_labels};
 ghost use Rattle.run_laws.specs.Clocks.{Clocks, taken_from, next_clocks};
 ghost use Rattle.run_laws.specs.Present.{labels_now, label_now, clocks_now};
 ghost use Rattle.run_laws.specs.Reports.{told_side};
+ghost use Rattle.elf_image.specs.File.{image_of, granules_of};
+ghost use Rattle.race_core.specs.Walk.{planned};
 ghost use Rattle.race_core.specs.Watched.{Watched, AreWatcherLimits, new_watched, with_room, noted, labelled, unlabelled, with_clock, raised, in_era, side_of};
 ghost use Rattle.race_core.specs.History.{era_now, IsClock, IsWatcherAt, IsWithin, AttachesWithin};
 
@@ -111,4 +113,12 @@ pub fn beyond_law()
 /// A clock of n slots that tells what is known of each of them is the whole clock, where nothing is known of others.
 pub fn whole_clock_law()
     ensures { (n : ℕ) (clock : List ℕ) (known : ℕ → ℕ) → length clock ≡ n → ((r : ℕ) → r < n → known r ≡ slice_index clock r) → ((r : ℕ) → n ≤ r → known r ≡ 0) → IsClock clock known }
+{}
+
+/// Each part of an access has some of its bytes, and is of a granule of the image. Granules rise. An access of at most 65,536 bytes has at most 8,193 parts.
+pub fn parts_law()
+    ensures bytes { (file : List ℕ) (a : Access) → All (λ (p : ℕ × ℕ). (p.1 ≢ 0) × (p.1 < 2 ^ 8)) (planned file a) }
+    ensures granules { (file : List ℕ) (a : Access) → image_of file ≡ Ok file → All (λ (p : ℕ × ℕ). p.0 < granules_of file) (planned file a) }
+    ensures rise { (file : List ℕ) (a : Access) → image_of file ≡ Ok file → AllPairs (λ (p q : ℕ × ℕ). p.0 < q.0) (planned file a) }
+    ensures few { (file : List ℕ) (a : Access) → a.size ≤ 65536 → length (planned file a) ≤ 8193 }
 {}

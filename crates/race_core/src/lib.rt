@@ -16,7 +16,7 @@ mod watcher;
 
 pub use laws::{
     attach_law, beyond_law, end_law, enter_law, era_law, event_law, first_law, other_law, own_law,
-    quiet_law, raise_law, room_law, side_law, whole_clock_law,
+    parts_law, quiet_law, raise_law, room_law, side_law, whole_clock_law,
 };
 pub use parts::Parts;
 pub use watcher::{Candidate, Watcher};

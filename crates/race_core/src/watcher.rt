@@ -221,13 +221,7 @@ impl Watcher {
 
     /// The check of one part of an access: the part's word, and what the words of the granule's four
     /// cells tell. `turn` is the cell that is overwritten where no other serves.
-    pub fn check_part(
-        &self,
-        event: &Event,
-        mask: u8,
-        cells: [u64; 4],
-        turn: u8,
-    ) -> (u64, Decision)
+    pub fn check_part(&self, event: &Event, mask: u8, cells: [u64; 4], turn: u8) -> (u64, Decision)
         requires access { IsSome (access_of event.now) }
         requires label { IsSomeAnd self.now.label (λ l. AreInClock l.era self.now.clock cells) }
         requires some_byte { mask ≢ 0 }
@@ -285,7 +279,6 @@ impl Watcher {
             locks,
         })
     }
-
 }
 
 /// What a trace keeps of a label.
