@@ -1,9 +1,9 @@
 -- Slots that nobody takes are known of nowhere.
-use Rattle.std.proofs.Common.{◌≡◌, ◌<◌, ◌≤◌, ◌+◌, ◌==◌, ◌&&◌, ◌⊎◌, max, ℕ, zero, suc, Bool, true, false, if◌then◌else◌, nat_lt, Option, Some, None, List, [], ◌∷◌, ◌++◌, refl, sym, ap, ap₂, subst, ◌∙◌, inl, inr, arith, eq-eqb, ne_eqb}
+use Rattle.std.proofs.Common.{◌≡◌, ◌<◌, ◌≤◌, ◌+◌, ◌==◌, ◌⊎◌, max, ℕ, Bool, true, false, if◌then◌else◌, Option, Some, None, List, [], ◌∷◌, ◌++◌, refl, inl, inr, arith, eq-eqb, ne_eqb}
 use Rattle.std.proofs.lemmas.Bool.{cases_eq}
 use Rattle.run_record.specs.declared.event.Event.{Event}
 use Rattle.run_record.specs.declared.entry.DeskNote.TheVariants.{Nothing, Attach, Leave}
-use Rattle.run_laws.specs.Moments.{Item, Does, Notes, NewEra, Past, Moment, items}
+use Rattle.run_laws.specs.Moments.{Item, Does, Notes, NewEra, Past, Moment}
 use Rattle.run_laws.specs.Labels.{Labels, labels, raised, slot_after, can_attach, event_labels, attach_labels, new_era, next_labels}
 use Rattle.run_laws.specs.Clocks.{Clocks, Place, Spot, Of, Left, clocks, clock_at, taken_from, empties, leaves, event_clocks, attach_clocks, no_clocks, next_clocks}
 use Rattle.run_laws.specs.Present.{labels_now, clocks_now}

@@ -1,5 +1,5 @@
 -- A watcher goes on with its thread's events.
-use Rattle.std.proofs.Common.{◌≡◌, ◌≢◌, ◌<◌, ◌≤◌, ◌+◌, ◌==◌, ◌⊎◌, ℕ, zero, suc, Bool, true, false, if◌then◌else◌, nat_lt, Option, Some, None, List, [], ◌∷◌, ◌++◌, length, slice_index, set, refl, sym, ap, ap₂, subst, ◌∙◌, inl, inr, arith}
+use Rattle.std.proofs.Common.{◌≡◌, ◌<◌, ◌≤◌, ◌+◌, ◌⊎◌, ℕ, Bool, true, false, if◌then◌else◌, Option, Some, None, List, [], ◌∷◌, ◌++◌, length, slice_index, set, refl, sym, ap, ap₂, subst, ◌∙◌, inl, inr, arith}
 use Rattle.std.specs.Prelude.{option_map, option_to_list}
 use Rattle.std.proofs.lemmas.Bool.{cases_eq, lt-ltb}
 use Rattle.std.proofs.lemmas.Grind.{get_or-set_at}
@@ -12,7 +12,7 @@ use Rattle.run_record.specs.declared.limits.Limits.{Limits}
 use Rattle.run_record.specs.declared.report.KeptLock.{KeptLock}
 use Rattle.run_laws.specs.Moments.{Item, Does, Notes, NewEra, Moment, items}
 use Rattle.run_laws.specs.Labels.{Labels, raises, is_end, next_labels, raised as run_raised}
-use Rattle.run_laws.specs.Clocks.{Clocks, taken_from}
+use Rattle.run_laws.specs.Clocks.{taken_from}
 use Rattle.run_laws.specs.Stacks.{event_by, frames_after, locks_after}
 use Rattle.run_laws.specs.Window.{TraceEvent, Labelled, Traced, is_traced}
 use Rattle.run_laws.specs.Present.{labels_now, label_now, clocks_now, trace_now}

@@ -1,23 +1,19 @@
 -- A thread that did nothing yet.
-use Rattle.std.proofs.Common.{◌≡◌, ◌≢◌, ◌<◌, ◌≤◌, ◌+◌, ◌==◌, ◌&&◌, ◌⊎◌, max, ℕ, zero, suc, Bool, true, false, if◌then◌else◌, nat_lt, Option, Some, None, List, [], ◌∷◌, ◌++◌, length, take, slice_index, replicate, refl, sym, ap, ap₂, subst, ◌∙◌, inl, inr, arith, eq-eqb, ne_eqb}
+use Rattle.std.proofs.Common.{◌≡◌, ℕ, zero, suc, Bool, true, false, if◌then◌else◌, Option, None, List, [], ◌∷◌, ◌++◌, length, take, slice_index, replicate, refl, sym, ap, ap₂, subst, ◌∙◌, arith, ne_eqb}
 use Rattle.std.specs.Prelude.{option_map, filter_map, fold}
 use Rattle.std.specs.List.{cons_option}
 use Rattle.std.proofs.Math.Seq.{take-length}
-use Rattle.std.proofs.lemmas.Bool.{cases_lt}
-use Rattle.std.proofs.lemmas.List.{length-replicate, get_or-replicate}
-use Rattle.std.proofs.Math.ListN.{get_or-eq_default}
+use Rattle.std.proofs.lemmas.List.{length-replicate}
 use Rattle.run_record.specs.declared.event.Event.{Event}
 use Rattle.run_record.specs.declared.entry.DeskNote.TheVariants.{Nothing, Attach, Leave}
-use Rattle.run_record.specs.declared.entry.Label.{Label}
 use Rattle.run_record.specs.declared.limits.Limits.{Limits}
-use Rattle.run_record.specs.declared.report.KeptLock.{KeptLock}
 use Rattle.run_laws.specs.Moments.{Item, Does, Notes, NewEra, Past, Moment, items, IsBy}
-use Rattle.run_laws.specs.Labels.{Labels, labels, next_labels, event_labels, attach_labels, can_attach}
+use Rattle.run_laws.specs.Labels.{Labels, labels, next_labels, attach_labels, can_attach}
 use Rattle.run_laws.specs.Clocks.{Clocks, clocks, next_clocks, attach_clocks}
 use Rattle.run_laws.specs.Stacks.{event_by, frames_after, locks_after}
 use Rattle.run_laws.specs.Window.{TraceEvent, traced_by, trace_before}
-use Rattle.run_laws.specs.Present.{labels_now, label_now, clocks_now, trace_now, frames_now, locks_now}
-use Rattle.trace_parts.specs.Held.{HeldTrace, Holds}
+use Rattle.run_laws.specs.Present.{labels_now, label_now}
+use Rattle.trace_parts.specs.Held.{Holds}
 use Rattle.race_core.specs.Watched.{AreWatcherLimits, new_trace, new_watched}
 use Rattle.race_core.specs.History.{IsWatcherAt}
 

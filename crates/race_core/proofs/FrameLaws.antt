@@ -1,19 +1,18 @@
 -- What a moment leaves as it was, and what it makes of a thread's stack, locks and trace.
-use Rattle.std.proofs.Common.{◌≡◌, ◌<◌, ◌≤◌, ◌+◌, ◌==◌, ◌&&◌, ◌⊎◌, ℕ, zero, suc, Bool, true, false, if◌then◌else◌, Option, Some, None, List, [], ◌∷◌, ◌++◌, length, take, refl, sym, ap, ap₂, subst, ◌∙◌, inl, inr, arith, eq-eqb, ne_eqb, length-append}
+use Rattle.std.proofs.Common.{◌≡◌, ◌<◌, ◌≤◌, ◌==◌, ℕ, suc, Bool, true, false, if◌then◌else◌, Option, Some, None, List, [], ◌∷◌, ◌++◌, length, refl, sym, ap, subst, ◌∙◌, arith, eq-eqb, ne_eqb, length-append}
 use Rattle.std.specs.Prelude.{filter_map, fold, option_map, option_to_list}
 use Rattle.std.specs.List.{cons_option}
 use Rattle.std.proofs.Math.Seq.{get_or-append_seam}
 use Rattle.run_record.specs.declared.event.Event.{Event}
 use Rattle.run_record.specs.declared.entry.DeskNote.TheVariants.{Nothing, Attach, Leave}
 use Rattle.run_record.specs.declared.entry.Label.{Label}
-use Rattle.run_record.specs.declared.report.KeptLock.{KeptLock}
-use Rattle.run_laws.specs.Moments.{Item, Does, Notes, NewEra, Past, Moment, items, IsBy}
-use Rattle.run_laws.specs.Labels.{Labels, labels, label_of, next_labels, raises, can_attach, attach_labels}
-use Rattle.run_laws.specs.Clocks.{Clocks, clocks, next_clocks, ChangesThread}
+use Rattle.run_laws.specs.Moments.{Item, Does, Notes, NewEra, Past, Moment, items}
+use Rattle.run_laws.specs.Labels.{Labels, label_of, next_labels, raises, can_attach, attach_labels}
+use Rattle.run_laws.specs.Clocks.{Clocks, clocks, ChangesThread}
 use Rattle.run_laws.specs.Stacks.{event_by, frames_after, locks_after}
 use Rattle.run_laws.specs.Window.{TraceEvent, Labelled, Traced, is_traced, traced_by}
 use Rattle.run_laws.specs.Present.{labels_now, label_now, clocks_now, trace_now, frames_now, locks_now}
-use Rattle.run_laws.proofs.PresentLaw.{labels_now-push, clocks_now-push, trace_now-push, frames_now-push, locks_now-push, labels_stay, clocks_stay}
+use Rattle.run_laws.proofs.PresentLaw.{labels_now-push, trace_now-push, frames_now-push, locks_now-push, labels_stay, clocks_stay}
 use Rattle.run_laws.proofs.FrameLaw.{label_frame, thread_frame}
 use Rattle.race_core.specs.History.{era_now}
 

@@ -1,11 +1,11 @@
 -- A thread's label and its clock after an event of its own.
-use Rattle.std.proofs.Common.{◌≡◌, ◌≢◌, ◌<◌, ◌≤◌, ◌+◌, ◌==◌, ◌&&◌, max, ℕ, zero, suc, Bool, true, false, if◌then◌else◌, nat_lt, Option, Some, None, List, [], ◌∷◌, ◌++◌, length, refl, sym, ap, ap₂, subst, ◌∙◌, arith, eq-eqb, ne_eqb}
-use Rattle.std.specs.Prelude.{option_map, ◌||◌}
+use Rattle.std.proofs.Common.{◌≡◌, ◌≢◌, ◌<◌, ◌≤◌, ◌+◌, ◌&&◌, max, ℕ, Bool, true, false, if◌then◌else◌, nat_lt, Option, Some, None, List, [], ◌∷◌, ◌++◌, refl, sym, ap, ap₂, ◌∙◌, arith, eq-eqb}
+use Rattle.std.specs.Prelude.{option_map}
 use Rattle.std.proofs.lemmas.Bool.{lt-ltb, le-ltb}
 use Rattle.run_record.specs.declared.event.Event.{Event}
 use Rattle.run_record.specs.declared.event.Event.TheVariants.{Begin, Create, End, Join, Enter, Leave, Lock, Unlock, Acquire, Release, Destroy, Access, Put}
 use Rattle.run_record.specs.declared.entry.Label.{Label}
-use Rattle.run_laws.specs.Moments.{Item, Does, Moment, items}
+use Rattle.run_laws.specs.Moments.{Item, Moment}
 use Rattle.run_laws.specs.Labels.{Labels, holds, is_end, raises, raised, slot_after, event_labels, next_labels}
 use Rattle.run_laws.specs.Clocks.{Clocks, Place, clock_at, taken_from, event_clocks, next_clocks}
 use Rattle.run_laws.specs.Window.{is_traced}

@@ -1,7 +1,7 @@
 -- No clock knows more of a slot than its epoch, and a thread's own clock knows just that of the slot that it holds.
-use Rattle.std.proofs.Common.{◌≡◌, ◌<◌, ◌≤◌, ◌+◌, ◌==◌, ◌&&◌, ◌⊎◌, max, ℕ, zero, suc, Bool, true, false, if◌then◌else◌, nat_lt, Option, Some, None, refl, sym, ap, ap₂, subst, ◌∙◌, inl, inr, arith, eq-eqb, ne_eqb, eqb-true}
+use Rattle.std.proofs.Common.{◌≡◌, ◌≤◌, ◌+◌, ◌==◌, ◌&&◌, ◌⊎◌, max, ℕ, zero, suc, Bool, true, false, if◌then◌else◌, nat_lt, Option, Some, None, refl, sym, ap, inl, inr, arith, eq-eqb, ne_eqb, eqb-true}
 use Rattle.std.specs.Prelude.{◌||◌}
-use Rattle.std.proofs.lemmas.Bool.{cases_eq, cases_Bool, and_parts}
+use Rattle.std.proofs.lemmas.Bool.{cases_eq, and_parts}
 use Rattle.run_record.specs.declared.event.Event.{Event}
 use Rattle.run_record.specs.declared.entry.DeskNote.TheVariants.{Nothing, Attach, Leave}
 use Rattle.run_laws.specs.Moments.{Item, Does, Notes, NewEra, Past}

@@ -1,15 +1,14 @@
 -- A watcher stays that of its thread where others act, and where nothing is done.
-use Rattle.std.proofs.Common.{◌≡◌, ◌<◌, ◌≤◌, ◌+◌, ◌==◌, ℕ, zero, suc, Option, Some, None, List, [], ◌∷◌, ◌++◌, length, slice_index, refl, sym, ap, subst, ◌∙◌, arith, ne_eqb}
+use Rattle.std.proofs.Common.{◌≡◌, ℕ, None, List, [], ◌∷◌, ◌++◌, refl, sym, ap, subst, ◌∙◌, arith, ne_eqb}
 use Rattle.run_record.specs.declared.entry.DeskNote.TheVariants.{Nothing, Attach, Leave}
 use Rattle.run_record.specs.declared.entry.Label.{Label}
 use Rattle.run_record.specs.declared.limits.Limits.{Limits}
 use Rattle.run_laws.specs.Moments.{Item, Does, Notes, NewEra, Past, Moment, IsBy}
 use Rattle.run_laws.specs.Clocks.{ChangesThread}
 use Rattle.run_laws.specs.Stacks.{event_by}
-use Rattle.run_laws.specs.Window.{TraceEvent}
 use Rattle.trace_parts.specs.Held.{Holds}
 use Rattle.race_core.specs.Watched.{Watched}
-use Rattle.race_core.specs.History.{era_now, IsWatcherAt}
+use Rattle.race_core.specs.History.{IsWatcherAt}
 use Rattle.race_core.proofs.FrameLaws.{label_same, clock_same, era_same, frames_none, locks_none, trace_none}
 
 pub unchanged : (limits : Limits) (h : List Moment) (m : Moment) (t : ℕ) (w : Watched) → IsWatcherAt limits h t w →

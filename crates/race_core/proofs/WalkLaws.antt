@@ -1,10 +1,10 @@
 -- One block of an access after another.
-use Rattle.std.proofs.Common.{◌≡◌, ◌≢◌, ℕ, zero, suc, ◌+◌, ◌-◌, ◌*◌, ◌<◌, ◌≤◌, ◌==◌, if◌then◌else◌, Bool, true, false, List, [], ◌∷◌, Option, Some, None, refl, sym, ap, ◌∙◌, arith, eqb-true, eq-eqb, ne_eqb}
+use Rattle.std.proofs.Common.{◌≡◌, ◌≢◌, ℕ, suc, ◌+◌, ◌-◌, ◌*◌, ◌<◌, ◌≤◌, ◌==◌, if◌then◌else◌, Bool, true, false, List, [], ◌∷◌, Option, Some, None, refl, ap, ◌∙◌, arith, eq-eqb, ne_eqb}
 use Rattle.std.specs.Prelude.{map, filter_map, option_map}
 use Rattle.std.specs.List.{cons_option}
 use Rattle.run_laws.specs.Numbers.{up_from}
 use Rattle.run_laws.specs.Accesses.{Access, Part, mask_in, part_in}
-use Rattle.race_core.specs.Walk.{pair_of, access}
+use Rattle.race_core.specs.Walk.{pair_of}
 
 -- the parts in so many blocks from one on
 abbrev pub parts_from : (ℕ → Option ℕ) → Access → ℕ → ℕ → List (ℕ × ℕ)

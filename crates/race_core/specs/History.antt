@@ -1,5 +1,5 @@
 -- What a watcher has to do with a history: with the label, the clock, the stack, the locks and the trace of its thread.
-use Rattle.std.specs.Prelude.{◌≡◌, ◌<◌, ◌≤◌, ℕ, List, Option, Some, None, length, slice_index}
+use Rattle.std.specs.Prelude.{◌≡◌, ◌<◌, ◌≤◌, ℕ, List, Some, None, length, slice_index}
 use Rattle.run_record.specs.declared.entry.Label.{Label}
 use Rattle.run_record.specs.declared.entry.DeskNote.TheVariants.{Attach}
 use Rattle.run_record.specs.declared.limits.Limits.{Limits}

@@ -1,4 +1,7 @@
 // Calls that take memory, each with an answer, and the parts of an access in an image.
+ghost use Rattle.std.specs.Prelude.{IsSome};
+ghost use Rattle.run_laws.specs.Accesses.{access_of};
+
 use super::*;
 use elf_image::load;
 use run_record::KeptLock;

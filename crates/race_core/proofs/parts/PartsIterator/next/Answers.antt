@@ -1,8 +1,7 @@
-use Rattle.std.proofs.Common.{ℕ, ◌≡◌, ◌+◌, ◌-◌, ◌<◌, List, ◌∷◌, length, refl, sym, ap, ◌∙◌, arith, rules}
+use Rattle.std.proofs.Common.{ℕ, ◌+◌, ◌-◌, List, ◌∷◌, length, sym, ap, ◌∙◌, arith}
 use Rattle.std.specs.Prelude.{false}
 use Rattle.elf_image.specs.File.{granule_of}
 use Rattle.race_core.specs.Walk.{access}
-use Rattle.race_core.specs.Parts.{left_of}
 use Rattle.race_core.proofs.WalkLaws.{parts_from, past_no_bytes, past_no_granule, first_part}
 use Rattle.race_core.proofs.parts.PartsIterator.next.Goals as goal
 
