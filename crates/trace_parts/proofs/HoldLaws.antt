@@ -4,7 +4,7 @@ use Rattle.std.proofs.lemmas.List.{take-map}
 use Rattle.std.proofs.lemmas.List.Sums.{fold-append}
 use Rattle.run_laws.specs.Window.{TraceEvent, words_in, with_event, parts_of_trace}
 use Rattle.trace_parts.specs.Snapshot.{Snapshot, nothing_yet, snapshot_after, after_all}
-use Rattle.trace_parts.specs.Held.{HeldPart, HeldTrace, events_in, after_part, with_pushed, pushed, EndsWithParts, Holds}
+use Rattle.trace_parts.specs.Held.{HeldPart, HeldTrace, events_in, after_part, standing_of, with_pushed, pushed, EndsWithParts, Holds}
 
 take-take : {A : Type 0} → (m n : ℕ) (xs : List A) → m ≤ n → take m (take n xs) ≡ take m xs
 take-take zero n xs h = refl
@@ -78,3 +78,22 @@ holds-push trace events e one holds =
       none_yet = λ h. absurd (with_pushed-some size n trace.held e one h);
       counted = omega (arith, holds.counted, length-append events (e ∷ []));
     }
+
+-- what stands then, by one event more
+standing-by_test :
+    (b : Bool) (part : HeldPart) (older : List HeldPart) (e : TraceEvent) →
+    standing_of (if b then record { snapshot = part.snapshot; events = part.events ++ e ∷ [] } ∷ older else record { snapshot = after_part part; events = e ∷ [] } ∷ part ∷ older) ≡ snapshot_after (after_part part) e
+standing-by_test true part older e = fold-append snapshot_after part.snapshot part.events (e ∷ [])
+standing-by_test false part older e = refl
+
+standing-with_pushed : (size : ℕ) (held : List HeldPart) (e : TraceEvent) → standing_of (with_pushed size held e) ≡ snapshot_after (standing_of held) e
+standing-with_pushed size [] e = refl
+standing-with_pushed size (part ∷ older) e = standing-by_test (nat_le (words_in 0 (part.events ++ e ∷ [])) size) part older e
+
+standing-take : (n : ℕ) (held : List HeldPart) → 1 ≤ n → standing_of (take n held) ≡ standing_of held
+standing-take zero held h = absurd (omega arith)
+standing-take (suc n) [] h = refl
+standing-take (suc n) (part ∷ older) h = refl
+
+pub standing-pushed : (trace : HeldTrace) (e : TraceEvent) → 1 ≤ trace.parts → standing_of (pushed trace e).held ≡ snapshot_after (standing_of trace.held) e
+standing-pushed trace e one = standing-take trace.parts (with_pushed trace.part_words trace.held e) one ∙ standing-with_pushed trace.part_words trace.held e

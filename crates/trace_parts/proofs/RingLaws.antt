@@ -16,7 +16,7 @@ use Rattle.trace_parts.specs.declared.ring.Part.{Part}
 use Rattle.trace_parts.specs.declared.ring.Ring.{Ring}
 use Rattle.trace_parts.specs.Spelling.{is_traceable, spelling, told}
 use Rattle.trace_parts.specs.Snapshot.{Snapshot, nothing_yet, snapshot_after, after_all}
-use Rattle.trace_parts.specs.Held.{HeldPart, after_part, with_pushed}
+use Rattle.trace_parts.specs.Held.{HeldPart, after_part, standing_of, with_pushed}
 use Rattle.trace_parts.specs.Part.{place_then, last_place, spelled, events_from, IsSpelled, snapshot_of, HasRoom, told_from, held_part, held_parts, held_in, IsPart, ArePartsOf, NextIsReady, IsRing, BeginsEmpty, Begins, Appends}
 use Rattle.trace_parts.proofs.WordLaws.{length-spelling, words_of-bounds, spelled-push, length-spelled, events_from-push, IsSpelled-push, IsSpelled-nil, events_from-nil}
 
@@ -218,3 +218,11 @@ take-cons (suc (suc n)) x xs h =
 pub on_ok : {T E P : Type 0} → (r : Result T E) → IsOk r → OnOk r P → P
 on_ok (Ok x) is_ok h = h
 on_ok (Err e) is_ok h = absurd (false≢true is_ok)
+
+-- what stands now is what stands after the held parts
+pub standing-ring : (ring : Ring) → IsRing ring → BeginsEmpty ring → snapshot_of ring.standing ≡ standing_of (held_in ring)
+standing-ring ring sound begins = go ring.current.words.items refl
+  where
+    go : (words : List ℕ) → ring.current.words.items ≡ words → snapshot_of ring.standing ≡ standing_of (held_parts words ring.current ring.older.items)
+    go [] e = sound.now ∙ ap (λ (ws : List ℕ). after_all (snapshot_of ring.current.before) (told_from ws)) e ∙ ap (λ (es : List TraceEvent). after_all (snapshot_of ring.current.before) (map told es)) (events_from-nil 0) ∙ begins.nothing e
+    go (w ∷ ws) e = sound.now

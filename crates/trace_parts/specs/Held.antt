@@ -27,6 +27,11 @@ events_in part = part.events
 abbrev pub after_part : HeldPart → Snapshot
 after_part part = after_all part.snapshot part.events
 
+-- what stands after the last event; the newest part comes first
+abbrev pub standing_of : List HeldPart → Snapshot
+standing_of [] = nothing_yet
+standing_of (part ∷ older) = after_part part
+
 -- One more event: in the newest part, or in a new one where its words don't fit there.
 abbrev pub with_pushed : ℕ → List HeldPart → TraceEvent → List HeldPart
 with_pushed size [] e = record { snapshot = nothing_yet; events = e ∷ [] } ∷ []

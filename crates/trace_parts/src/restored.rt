@@ -166,7 +166,7 @@ fn mask_at(addr: u64, size: u32, address: u64) -> u64
 }
 
 /// The place, then the frames from the innermost outwards.
-fn stack_of(alloc: Global, place: u64, frames: &[u64]) -> Result<Vec<u64>, AllocError>
+pub(crate) fn stack_of(alloc: Global, place: u64, frames: &[u64]) -> Result<Vec<u64>, AllocError>
     ensures { IfOk result (λ stack. stack.items ≡ place ∷ reverse frames.now) }
 {
     let mut stack = Vec::from_slice(alloc, frames)?;

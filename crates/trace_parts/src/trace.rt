@@ -1,17 +1,18 @@
 // A thread's trace.
-ghost use Rattle.std.specs.Prelude.{◌≡◌, ℕ, ◌+◌, ◌-◌, ◌^◌, ◌<◌, ◌≤◌, List, [], ◌∷◌, ◌++◌, ◌↔◌, false, IsTrue, IsSome, IfOk, OnOk, OnErr};
+ghost use Rattle.std.specs.Prelude.{◌≡◌, ℕ, ◌+◌, ◌-◌, ◌^◌, ◌<◌, ◌≤◌, List, [], ◌∷◌, ◌++◌, ◌↔◌, length, false, IsTrue, IsSome, IfOk, OnOk, OnErr};
 ghost use Rattle.run_laws.specs.Window as window;
-ghost use Rattle.trace_parts.specs.Held.{Holds, pushed, with_spare, has_label};
+ghost use Rattle.trace_parts.specs.Held.{Holds, pushed, standing_of, with_spare, has_label};
+ghost use Rattle.trace_parts.specs.Snapshot.{snapshot_after};
 ghost use Rattle.trace_parts.specs.Sought.{restored, first_held, IsFirstOfAll};
 ghost use Rattle.trace_parts.specs.Spelling.{IsTraceable, told};
 
 #[cfg(test)]
 mod tests;
 
-use crate::restored::Sought;
+use crate::restored::{Sought, stack_of};
 use crate::ring::Ring;
 use crate::{Restored, TraceEvent};
-use run_record::{Label, NoMemory};
+use run_record::{Items, Label, Locks, NoMemory, Places};
 use std::alloc::Global;
 use std::marker::Model;
 
@@ -55,6 +56,7 @@ impl Trace {
         ensures parts { IfOk result (λ trace. trace.parts ≡ parts) }
         ensures held { IfOk result (λ trace. trace.held ≡ []) }
         ensures count { IfOk result (λ trace. trace.count ≡ 0) }
+        ensures spare { IfOk result (λ trace. trace.spare ≡ 0) }
         ensures holds { IfOk result (λ trace. Holds trace []) }
     {
         let ring = Ring::new(alloc, part_words, parts)?;
@@ -79,9 +81,34 @@ impl Trace {
         ensures pushed { self.new ≡ pushed self.old (told event) }
         ensures holds { (events : List window.TraceEvent) → Holds self.old events →
             Holds self.new (events ++ told event ∷ []) }
+        ensures standing { standing_of self.new.held ≡ snapshot_after (standing_of self.old.held) (told event) }
     {
         self.ring.push(&event);
         self.count += 1;
+    }
+
+    /// How many frames the thread's stack has.
+    pub fn depth(&self) -> usize
+        ensures { result ≡ length (standing_of self.now.held).frames }
+    {
+        self.ring.standing.frames.len()
+    }
+
+    /// The stack of the thread where it makes an access at `place`: that place, then the frames from
+    /// the innermost outwards.
+    pub fn stack_at(&self, place: u64) -> Result<Places, NoMemory>
+        ensures { IfOk result (λ stack. stack ≡ place ∷ (standing_of self.now.held).frames) }
+    {
+        let stack = stack_of(self.ring.alloc, place, &self.ring.standing.frames)?;
+        Ok(Items::from_vec(stack))
+    }
+
+    /// The locks that the thread keeps, the first taken first.
+    pub fn locks(&self) -> Result<Locks, NoMemory>
+        ensures { IfOk result (λ locks. locks ≡ (standing_of self.now.held).locks) }
+    {
+        let locks = Vec::from_slice(self.ring.alloc, &self.ring.standing.locks)?;
+        Ok(Items::from_vec(locks))
     }
 
     /// The first access under that label whose cell word on the eight bytes from `granule_address`

@@ -1,0 +1,6 @@
+pub mod Watched
+pub mod Traced
+pub mod Walk
+pub mod Parts
+pub mod Lending
+pub mod History
