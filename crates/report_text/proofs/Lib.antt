@@ -1,2 +1,3 @@
 pub mod StackLaws
 pub mod OfferLaws
+pub mod TextLaws

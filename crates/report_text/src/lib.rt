@@ -6,7 +6,13 @@
 //! which give each text byte for byte and a run's status.
 #![tactic(auto)]
 
+mod frames;
 mod reporter;
 mod stack_pair;
+mod status;
+mod texts;
 
+pub use frames::{Frame, Frames, Unnamed};
 pub use reporter::{Offered, Reporter};
+pub use status::{end_status, status_of};
+pub use texts::{summary, text_of};
