@@ -10,3 +10,7 @@ use Rattle.report_text.specs.declared.reporter.Offered.TheVariants.{Reported, Su
 abbrev pub offered : Kept → Option ℕ → Report → Offered
 offered kept (Some rule) r = Suppressed rule
 offered kept None r = option_map_or (λ at. Equal (at + 1)) (position (is_equal r) kept.reports) (Reported (length kept.reports + 1))
+
+-- how many races were offered
+abbrev pub offers : Kept → ℕ
+offers kept = length kept.reports + kept.suppressed + kept.equal

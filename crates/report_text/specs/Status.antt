@@ -11,5 +11,5 @@ end_status (Fault k pc tid) = 9
 end_status AllEnded = 0
 end_status Budget = 8
 
-abbrev pub run_status : Finished → ℕ
-run_status f = if nat_lt 0 (length f.reports) then 66 else end_status f.last.end
+abbrev pub status_of : Finished → ℕ
+status_of f = if nat_lt 0 (length f.reports) then 66 else end_status f.last.end

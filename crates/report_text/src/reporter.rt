@@ -64,7 +64,7 @@ fn add(index: &mut Index, stacks: StackPair)
 }
 
 impl Reporter {
-    ghost use Rattle.report_text.specs.Offers.{offered};
+    ghost use Rattle.report_text.specs.Offers.{offered, offers};
 
     /// No reports.
     pub fn new(alloc: Global) -> Result<Reporter, NoMemory>
@@ -87,10 +87,11 @@ impl Reporter {
         previous: Side,
         met: Option<usize>,
     ) -> Result<Offered, NoMemory>
-        requires { length self.old.reports + self.old.suppressed + self.old.equal < 2 ^ 32 - 1 }
+        requires { offers self.old < 2 ^ 32 - 1 }
         ensures answer { IfOk result (λ o. o ≡ offered self.old met (record { mine = mine; previous = previous })) }
         ensures kept { (meets : Option (List ℕ) → Option (List ℕ) → Bool) → meets mine.stack previous.stack ≡ is_some met →
             OnOk result (self.new ≡ kept_after meets self.old (record { mine = mine; previous = previous })) }
+        ensures counted { OnOk result (offers self.new ≡ offers self.old + 1) }
         ensures err { OnErr result (self.new ≡ self.old) }
     {
         if let Some(rule) = met {

@@ -19,7 +19,7 @@ pub fn end_status(end: GuestEnd) -> u8
 
 /// The status of a run: 66 where there is a report, and else that of its end.
 pub fn status_of(finished: &Finished) -> u8
-    ensures { result ≡ status.run_status finished.now }
+    ensures { result ≡ status.status_of finished.now }
 {
     if finished.reports.len() > 0 {
         66
