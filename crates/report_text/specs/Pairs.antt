@@ -64,8 +64,8 @@ both_same s t u v e =
 pub same_stacks-true : (p q : StackPair) → same_stacks p q ≡ true → AreSame p q
 same_stacks-true p q e =
     elim (or_cases (same_stack p.mine q.mine && same_stack p.previous q.previous) (same_stack p.mine q.previous && same_stack p.previous q.mine) e) [
-      inl straight ↦ inl (both_same p.mine q.mine p.previous q.previous straight)
-    | inr crossed ↦ inr (both_same p.mine q.previous p.previous q.mine crossed)
+      | inl straight ↦ inl (both_same p.mine q.mine p.previous q.previous straight)
+      | inr crossed ↦ inr (both_same p.mine q.previous p.previous q.mine crossed)
     ]
 
 from_same : (s t : Option (List ℕ)) → s ≡ t → same_stack s t ≡ true
@@ -104,6 +104,6 @@ same_stacks_equiv = equiv
 pub pair_writes-same : (p q : StackPair) → same_stacks p q ≡ true → pair_writes p ≡ pair_writes q
 pair_writes-same p q e =
     elim (same_stacks-true p q e) [
-      inl h ↦ (λ i. fed.u64 ((stack_hash (h.0 i) + stack_hash (h.1 i)) % 2 ^ 64))
-    | inr h ↦ (λ i. fed.u64 ((stack_hash (h.0 i) + stack_hash (h.1 i)) % 2 ^ 64)) ∙ ap (λ n. fed.u64 (n % 2 ^ 64)) (add_comm (stack_hash q.previous) (stack_hash q.mine))
+      | inl h ↦ (λ i. fed.u64 ((stack_hash (h.0 i) + stack_hash (h.1 i)) % 2 ^ 64))
+      | inr h ↦ (λ i. fed.u64 ((stack_hash (h.0 i) + stack_hash (h.1 i)) % 2 ^ 64)) ∙ ap (λ n. fed.u64 (n % 2 ^ 64)) (add_comm (stack_hash q.previous) (stack_hash q.mine))
     ]

@@ -10,6 +10,8 @@ mod frames;
 mod reporter;
 mod stack_pair;
 mod status;
+#[cfg(test)]
+mod tests;
 mod texts;
 
 pub use frames::{Frame, Frames, Unnamed};

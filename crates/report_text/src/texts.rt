@@ -76,7 +76,10 @@ fn write_frame(
     if file.is_empty() {
         write!(text, "    #{number} {name} ??:0 (0x{place:016x})\n")
     } else {
-        write!(text, "    #{number} {name} {file}:{line} (0x{place:016x})\n")
+        write!(
+            text,
+            "    #{number} {name} {file}:{line} (0x{place:016x})\n"
+        )
     }
 }
 
