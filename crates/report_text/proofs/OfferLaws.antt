@@ -1,12 +1,11 @@
 -- What is found among the pairs of stacks is what is found among the reports.
-use Rattle.std.proofs.Common.{◌≡◌, ℕ, suc, ◌+◌, ◌<◌, ◌≤◌, nat_lt, not, Bool, true, false, ◌||◌, cond, if◌then◌else◌, List, [], ◌∷◌, ◌++◌, length, map, position, Option, Some, None, is_some, refl, ap, sym, ◌∙◌, arith, lt-ltb, length-append}
+use Rattle.std.proofs.Common.{◌≡◌, ℕ, suc, ◌+◌, nat_lt, not, Bool, true, false, ◌||◌, cond, List, [], ◌∷◌, ◌++◌, length, map, position, Option, Some, None, is_some, refl, ap, sym, ◌∙◌, arith, lt-ltb, length-append}
 use Rattle.std.proofs.lemmas.Bool.Decides.{nat_tests}
 use Rattle.std.specs.List.{list_any, prefix_len, position_or_len}
 use Rattle.run_record.specs.declared.report.Report.{Report}
 use Rattle.run_laws.specs.Reports.{Kept, is_equal, kept_after}
 use Rattle.report_text.specs.declared.stack_pair.StackPair.{StackPair}
-use Rattle.report_text.specs.declared.reporter.Offered.{Offered}
-use Rattle.report_text.specs.declared.reporter.Offered.TheVariants.{Reported, Suppressed, Equal}
+use Rattle.report_text.specs.declared.reporter.Offered.TheVariants.{Reported, Equal}
 use Rattle.report_text.specs.Pairs.{stacks_of, same_stacks}
 use Rattle.report_text.specs.Offers.{offered}
 use Rattle.indexmap.specs.IndexSet.{insert_key}

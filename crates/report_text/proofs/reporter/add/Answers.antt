@@ -1,4 +1,4 @@
-use Rattle.std.proofs.Common.{◌≡◌, ◌∙◌}
+use Rattle.std.proofs.Common.{◌∙◌}
 use Rattle.report_text.proofs.OfferLaws.{added}
 use Rattle.report_text.proofs.reporter.add.Goals as goal
 

@@ -1,4 +1,4 @@
-use Rattle.std.proofs.Common.{◌≡◌, ◌∙◌, ◌==◌, sym}
+use Rattle.std.proofs.Common.{◌∙◌, ◌==◌, sym}
 use Rattle.std.specs.Cmp.Lexicographic.{pointwise}
 use Rattle.run_laws.specs.Reports.{same_stack}
 use Rattle.report_text.proofs.StackLaws.{pointwise_places}

@@ -1,4 +1,4 @@
-use Rattle.std.proofs.Common.{◌≡◌, ◌++◌, ◌∙◌, ap, append_assoc}
+use Rattle.std.proofs.Common.{◌∙◌, ap, append_assoc}
 use Rattle.report_text.proofs.TextLaws.{two_pieces}
 use Rattle.report_text.proofs.texts.summary.Goals as goal
 

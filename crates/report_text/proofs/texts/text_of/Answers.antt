@@ -1,5 +1,4 @@
-use Rattle.std.proofs.Common.{◌≡◌, ◌++◌, ◌∙◌, ap}
-use Rattle.report_text.specs.Texts.{side_text}
+use Rattle.std.proofs.Common.{◌∙◌, ap}
 use Rattle.report_text.proofs.TextLaws.{four_pieces}
 use Rattle.report_text.proofs.texts.text_of.Goals as goal
 

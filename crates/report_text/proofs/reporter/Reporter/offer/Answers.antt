@@ -1,6 +1,6 @@
-use Rattle.std.proofs.Common.{◌≡◌, ◌+◌, ℕ, Bool, List, [], ◌∷◌, ◌++◌, Option, Some, None, length, map, position, is_some, ap, sym, ◌∙◌, refl}
+use Rattle.std.proofs.Common.{[], ◌∷◌, ◌++◌, length, ap, sym, ◌∙◌}
 use Rattle.run_record.specs.declared.report.Report.{Report}
-use Rattle.run_laws.specs.Reports.{Kept, kept_after}
+use Rattle.run_laws.specs.Reports.{Kept}
 use Rattle.report_text.specs.declared.reporter.Offered.TheVariants.{Reported}
 use Rattle.report_text.proofs.OfferLaws.{offered-equal, kept_after-equal, offered-new, kept_after-new, found_with, kept_pair, whole, length-push}
 use Rattle.report_text.proofs.reporter.Reporter.offer.Goals as goal
