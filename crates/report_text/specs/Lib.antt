@@ -1,0 +1,5 @@
+pub mod Pairs
+pub mod Offers
+pub mod FrameTexts
+pub mod Texts
+pub mod Status

@@ -1,0 +1,255 @@
+// Texts as they are printed, and what becomes of offered races.
+ghost use Rattle.std.specs.Prelude.{◌≡◌};
+ghost use Rattle.report_text.specs.Offers.{offers};
+
+use crate::{Frame, Frames, Offered, Reporter, Unnamed, status_of, summary, text_of};
+use run_record::{
+    Bytes, Entries, Finished, GuestEnd, KeptLock, LastState, Locks, NoMemory, Places, Record,
+    Report, Reports, Side,
+};
+use std::alloc::{AllocError, Global};
+use std::test::Fail;
+
+fn places(alloc: Global, stack: &[u64]) -> Result<Places, AllocError> {
+    let mut places = Places::new(alloc);
+    places.extend_from_slice(stack)?;
+    Ok(places)
+}
+
+// A write of eight bytes at 0x1000000 without locks.
+fn write_of(alloc: Global, tid: u32, stack: &[u64]) -> Result<Side, AllocError> {
+    Ok(Side {
+        tid,
+        read: false,
+        atomic: false,
+        addr: 0x1000000,
+        size: 8,
+        stack: Some(places(alloc, stack)?),
+        locks: Locks::new(alloc),
+    })
+}
+
+// A write of eight bytes by the main thread whose stack is lost.
+fn lost_write(alloc: Global) -> Side {
+    Side {
+        tid: 0,
+        read: false,
+        atomic: false,
+        addr: 0x1000000,
+        size: 8,
+        stack: None,
+        locks: Locks::new(alloc),
+    }
+}
+
+// Knows the addresses below 0x10050.
+#[derive(Clone, Copy)]
+struct FewNames;
+
+impl Frames for FewNames {
+    ghost use Rattle.std.specs.Prelude.{nat_lt, if◌then◌else◌, codes, []};
+
+    ghost frame_of = { λ _ place. if nat_lt place 0x10050 then record { name = codes "main"; file = codes "src/a.c"; line = 18446744073709551615 } else (if nat_lt place 0x10060 then record { name = codes "a"; file = []; line = 7 } else record { name = []; file = codes "b.c"; line = 0 }) };
+
+    fn frame(&self, place: u64) -> Frame<'_> {
+        if place < 0x10050 {
+            Frame {
+                name: "main",
+                file: "src/a.c",
+                line: u64::MAX,
+            }
+        } else if place < 0x10060 {
+            Frame {
+                name: "a",
+                file: "",
+                line: 7,
+            }
+        } else {
+            Frame {
+                name: "",
+                file: "b.c",
+                line: 0,
+            }
+        }
+    }
+}
+
+#[test]
+fn two_writes_without_names(rt: HostRuntime) -> Result<(), Fail> {
+    let alloc = rt.alloc();
+    let report = Report {
+        mine: write_of(alloc, 1, &[0x10054])?,
+        previous: write_of(alloc, 0, &[0x10028])?,
+    };
+    let text = text_of(alloc, &report, &Unnamed)?;
+    let wanted = b"==================
+WARNING: ThreadSanitizer: data race
+  Write of size 8 at 0x0000000001000000 by thread T1:
+    #0 ?? ??:0 (0x0000000000010054)
+  Previous write of size 8 at 0x0000000001000000 by main thread:
+    #0 ?? ??:0 (0x0000000000010028)
+==================
+";
+    assert!(rt; text.as_slice() == wanted.as_slice());
+    Ok(())
+}
+
+// A read of three frames by thread 1023 under two locks.
+fn locked_read(alloc: Global) -> Result<Side, AllocError> {
+    let first = KeptLock {
+        addr: 0x1000008,
+        read: false,
+    };
+    let second = KeptLock {
+        addr: 0x1000010,
+        read: true,
+    };
+    let mut side = write_of(alloc, 1023, &[0x1004c, 0x10050, 0x10060])?;
+    side.read = true;
+    side.addr = 0xfedc_ba98_7654_3210;
+    side.size = 65536;
+    side.locks.extend_from_slice(&[first, second])?;
+    Ok(side)
+}
+
+#[test]
+fn kinds_locks_names_and_a_lost_stack(rt: HostRuntime) -> Result<(), Fail> {
+    let alloc = rt.alloc();
+    let mine = locked_read(alloc)?;
+    let mut previous = lost_write(alloc);
+    previous.atomic = true;
+    let text = text_of(alloc, &Report { mine, previous }, &FewNames)?;
+    let wanted = b"==================
+WARNING: ThreadSanitizer: data race
+  Read of size 65536 at 0xfedcba9876543210 by thread T1023 (mutexes: write 0x0000000001000008, read 0x0000000001000010):
+    #0 main src/a.c:18446744073709551615 (0x000000000001004c)
+    #1 a ??:0 (0x0000000000010050)
+    #2 ?? b.c:0 (0x0000000000010060)
+  Previous atomic write of size 8 at 0x0000000001000000 by main thread:
+    [failed to restore the stack]
+==================
+";
+    assert!(rt; text.as_slice() == wanted.as_slice());
+    Ok(())
+}
+
+// A run without entries that ended so.
+fn run_of(alloc: Global, reports: Reports, end: GuestEnd) -> Finished {
+    Finished {
+        history: Record {
+            entries: Entries::new(alloc),
+        },
+        reports,
+        suppressed: 20,
+        equal: 300,
+        output: Bytes::new(alloc),
+        last: LastState {
+            threads: 4,
+            rounds: 5,
+            era: 6,
+            end,
+        },
+    }
+}
+
+const ENDS: [(GuestEnd, &str, u8); 5] = [
+    (GuestEnd::Exit(0), "exit 0", 0),
+    (GuestEnd::Exit(255), "exit 255", 1),
+    (GuestEnd::AllEnded, "all ended", 0),
+    (GuestEnd::Budget, "budget spent", 8),
+    (
+        GuestEnd::Fault {
+            fault: 3,
+            pc: 0x100ab,
+            tid: 2,
+        },
+        "fault 3 at 0x00000000000100ab by thread T2",
+        9,
+    ),
+];
+
+#[test]
+fn ends_of_runs(rt: HostRuntime) -> Result<(), Fail> {
+    let alloc = rt.alloc();
+    for (end, wanted, status) in ENDS {
+        let run = run_of(alloc, Reports::new(alloc), end);
+        let text = summary(alloc, &run)?;
+        let line = format!(in alloc;
+            "tsanrun: 0 reports, 20 suppressed, 300 equal, 4 threads, {wanted}\n"
+        )?;
+        assert!(rt; text.as_slice() == line.as_bytes());
+        assert!(rt; status_of(&run) == status);
+    }
+    Ok(())
+}
+
+#[test]
+fn status_with_a_report(rt: HostRuntime) -> Result<(), Fail> {
+    let alloc = rt.alloc();
+    let mut reports = Reports::new(alloc);
+    reports.push(Report {
+        mine: lost_write(alloc),
+        previous: lost_write(alloc),
+    })?;
+    let run = run_of(alloc, reports, GuestEnd::Budget);
+    assert!(rt; status_of(&run) == 66);
+    Ok(())
+}
+
+// A stack by its number; none stands for a lost one.
+fn stack_of(number: u8) -> Option<&'static [u64]> {
+    match number {
+        0 => None,
+        1 => Some(&[8, 4]),
+        2 => Some(&[12]),
+        _ => Some(&[8]),
+    }
+}
+
+fn side_of(alloc: Global, number: u8) -> Result<Side, AllocError> {
+    match stack_of(number) {
+        None => Ok(lost_write(alloc)),
+        Some(stack) => write_of(alloc, 0, stack),
+    }
+}
+
+fn race_of(alloc: Global, mine: u8, previous: u8) -> Result<Report, AllocError> {
+    let mine = side_of(alloc, mine)?;
+    let previous = side_of(alloc, previous)?;
+    Ok(Report { mine, previous })
+}
+
+// The stacks of a race, the rule that it meets, and what becomes of it.
+const RACES: [(u8, u8, Option<usize>, Offered); 7] = [
+    (1, 2, None, Offered::Reported(1)),
+    (1, 0, None, Offered::Reported(2)),
+    (2, 1, None, Offered::Equal(1)),
+    (1, 2, Some(7), Offered::Suppressed(7)),
+    (3, 2, None, Offered::Reported(3)),
+    (0, 1, None, Offered::Equal(2)),
+    (1, 1, None, Offered::Reported(4)),
+];
+
+// Whether each race becomes what is wanted.
+fn offer_all(alloc: Global, reporter: &mut Reporter) -> Result<bool, NoMemory>
+    requires { offers reporter.old ≡ 0 }
+{
+    let mut as_wanted = true;
+    for (mine, previous, met, wanted) in RACES {
+        let Report { mine, previous } = race_of(alloc, mine, previous)?;
+        let answer = reporter.offer(mine, previous, met)?;
+        as_wanted = as_wanted && answer == wanted;
+    }
+    Ok(as_wanted)
+}
+
+#[test]
+fn what_becomes_of_races(rt: HostRuntime) -> Result<(), Fail> {
+    let mut reporter = Reporter::new(rt.alloc())?;
+    let as_wanted = offer_all(rt.alloc(), &mut reporter)?;
+    assert!(rt; as_wanted);
+    assert!(rt; reporter.suppressed() == 1 && reporter.equal() == 2);
+    assert!(rt; reporter.reports().len() == 4);
+    assert!(rt; reporter.into_reports().len() == 4);
+    Ok(())
+}
