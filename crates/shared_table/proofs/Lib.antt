@@ -1,0 +1,9 @@
+pub mod Pasts
+pub mod Keeps
+pub mod Rows
+pub mod Owns
+pub mod Turns
+pub mod Laws
+pub mod Slots
+pub mod Ending
+pub mod Dealing

@@ -1,0 +1,14 @@
+-- For callers: from a take to its give.
+use Rattle.std.proofs.Common.{◌≡◌, ℕ, [], ◌∷◌, ◌++◌, None, Some, refl, ap, ◌∙◌}
+use Rattle.shared_table.specs.declared.object.Object.{Object}
+use Rattle.shared_table.specs.Steps.{Mine, holding}
+use Rattle.shared_table.specs.Seats.{IsFree, Holds, Took, Gave}
+
+pub took_holds : (k : ℕ) (me : Mine) (y : Object) (me' : Mine) → Took k me y me' → Holds me' k
+took_holds k me y me' t = (holding k t.done y, ap (λ (m : Mine). m.0.held) t.log, refl, ap (λ (m : Mine). m.1) t.log)
+
+-- after the give the seat holds nothing
+pub gave_free : (k : ℕ) (me : Mine) (y z : Object) (m1 m2 : Mine) → Took k me y m1 → Gave m1 z m2 → IsFree m2 × (m2.0.number ≡ me.0.number)
+gave_free k me y z m1 m2 t g =
+    let e = g (holding k t.done y) (ap (λ (m : Mine). m.0.held) t.log) in
+    ((ap (λ (m : Mine). m.0.held) e, ap (λ (m : Mine). m.1) e), ap (λ (m : Mine). m.0.number) e ∙ ap (λ (m : Mine). m.0.number) t.log)
