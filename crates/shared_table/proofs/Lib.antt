@@ -7,3 +7,4 @@ pub mod Laws
 pub mod Slots
 pub mod Ending
 pub mod Dealing
+pub mod Rounding

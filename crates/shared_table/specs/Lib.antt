@@ -7,4 +7,5 @@ pub mod Rule
 pub mod Steps
 pub mod Seats
 pub mod Ends
+pub mod Rounds
 pub mod Laws
