@@ -191,7 +191,7 @@ fn turns_follow(rt: HostRuntime) -> Result<(), Fail> {
         .iter()
         .all(|s| matches!(s, Some(stripe) if stripe.last == 64));
     assert!(rt; stamps_end && matches!(&closed.desk, Some(desk) if desk.last == 64));
-    assert_eq!(rt; &closed.cells.as_slice()[..5], [0x1_00ff, 0x1_01ff, 0x1_02ff, 0x1_03ff, 0]);
+    assert_eq!(rt; &closed.cells.as_slice()[..5], [0x1_00ffu64, 0x1_01ff, 0x1_02ff, 0x1_03ff, 0].as_slice());
     Ok(())
 }
 
