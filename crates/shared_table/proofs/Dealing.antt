@@ -1,13 +1,11 @@
 -- The words of granules are dealt to their stripes.
-use Rattle.std.proofs.Common.{◌≡◌, ◌≢◌, ℕ, zero, suc, ◌+◌, ◌*◌, ◌<◌, ◌≤◌, List, [], ◌∷◌, ◌++◌, length, get_or, set, replicate, Option, None, Some, refl, sym, ap, ◌∙◌, subst, arith, append-nil, length-append, length-set, get_or-set_other, get_or-set_same}
-use Rattle.std.specs.Prelude.{◌==◌, if◌then◌else◌}
+use Rattle.std.proofs.Common.{◌≡◌, ◌≢◌, ℕ, zero, suc, ◌+◌, ◌*◌, ◌<◌, ◌≤◌, List, [], ◌∷◌, ◌++◌, length, get_or, set, replicate, None, Some, refl, sym, ap, ◌∙◌, subst, arith, append-nil, length-append, length-set, get_or-set_other, get_or-set_same}
 use mathlib.Core.Logic.{dite}
-use mathlib.Core.Option.{some, some-injective}
+use mathlib.Core.Option.{some}
 use native.Mathlib.Decide.{ℕ_discrete}
 use lib.ListN.{get_elem?}
 use Rattle.run_record.specs.declared.limits.Limits.{Limits}
-use Rattle.elf_image.specs.File.{granules_of, granule_address, initial_word}
-use Rattle.slot_desk.specs.Steps.{new_desk}
+use Rattle.elf_image.specs.File.{granules_of, initial_word}
 use Rattle.slot_desk.specs.Desks.{SlotContents, fresh_slot}
 use Rattle.shared_table.specs.declared.object.Object.TheVariants.{Stripe, Desk}
 use Rattle.shared_table.specs.declared.view.Layout.{Layout}
@@ -77,25 +75,25 @@ module _ (image : List ℕ) (limits : Limits) (n : ℕ) (stripes : List Slot) (p
             (λ o. subst (IsBlank limits) (sym (else_at k (λ e. o (sym e)))) (old.blank k l));
         sizes = λ k l. dite (ℕ_discrete s k)
             (λ e.
-                let grown : length (words_in x) ≡ length before + 1 = ap (λ (z : List ℕ). length z) more ∙ length-append before (initial_word image n ∷ []) in
-                ap (λ (z : Slot). length (words_in z)) (here_at k e) ∙ (grown ∙ (ap (λ (z : ℕ). z + 1) (full ∙ ap (λ (z : ℕ). count_below f z n) e) ∙ sym (counts_here f k n e))))
+            let grown : length (words_in x) ≡ length before + 1 = ap (λ (z : List ℕ). length z) more ∙ length-append before (initial_word image n ∷ []) in
+            ap (λ (z : Slot). length (words_in z)) (here_at k e) ∙ (grown ∙ (ap (λ (z : ℕ). z + 1) (full ∙ ap (λ (z : ℕ). count_below f z n) e) ∙ sym (counts_here f k n e))))
             (λ o. ap (λ (z : Slot). length (words_in z)) (else_at k (λ e. o (sym e))) ∙ (old.sizes k l ∙ sym (counts_else f k n o)));
         placed = each_more (λ k v. v ≡ place_in image k) places (length before) 0 n all_places old.placed full;
         words = λ g l. dite (ℕ_discrete g n)
             (λ e.
-                let there : words_in (slot_at after (f g)) ≡ before ++ initial_word image n ∷ [] = ap words_in (here_at (f g) (ap f (sym e))) ∙ more in
-                ap (λ (z : List ℕ). get_or z (place_in image g) 0) there
-                ∙ (ap (λ (z : ℕ). get_or (before ++ initial_word image n ∷ []) (place_in image z) 0) e
-                ∙ (snoc_here before (initial_word image n) 0 (place_in image n) full ∙ ap (initial_word image) (sym e))))
+            let there : words_in (slot_at after (f g)) ≡ before ++ initial_word image n ∷ [] = ap words_in (here_at (f g) (ap f (sym e))) ∙ more in
+            ap (λ (z : List ℕ). get_or z (place_in image g) 0) there
+            ∙ (ap (λ (z : ℕ). get_or (before ++ initial_word image n ∷ []) (place_in image z) 0) e
+            ∙ (snoc_here before (initial_word image n) 0 (place_in image n) full ∙ ap (initial_word image) (sym e))))
             (λ o. dite (ℕ_discrete s (f g))
-                (λ e.
-                    let there : words_in (slot_at after (f g)) ≡ before ++ initial_word image n ∷ [] = ap words_in (here_at (f g) e) ∙ more in
-                    let inside = counted f g n (omega arith) in
-                    let size : length before ≡ count_below f (f g) n = full ∙ ap (λ (z : ℕ). count_below f z n) e in
-                    ap (λ (z : List ℕ). get_or z (place_in image g) 0) there
-                    ∙ (snoc_before before (initial_word image n) 0 (place_in image g) (omega arith)
-                    ∙ (ap (λ (z : ℕ). get_or (words_in (slot_at stripes z)) (place_in image g) 0) e ∙ old.words g (omega arith))))
-                (λ p. ap (λ (z : Slot). get_or (words_in z) (place_in image g) 0) (else_at (f g) (λ e. p (sym e))) ∙ old.words g (omega arith)));
+            (λ e.
+            let there : words_in (slot_at after (f g)) ≡ before ++ initial_word image n ∷ [] = ap words_in (here_at (f g) e) ∙ more in
+            let inside = counted f g n (omega arith) in
+            let size : length before ≡ count_below f (f g) n = full ∙ ap (λ (z : ℕ). count_below f z n) e in
+            ap (λ (z : List ℕ). get_or z (place_in image g) 0) there
+            ∙ (snoc_before before (initial_word image n) 0 (place_in image g) (omega arith)
+            ∙ (ap (λ (z : ℕ). get_or (words_in (slot_at stripes z)) (place_in image g) 0) e ∙ old.words g (omega arith))))
+            (λ p. ap (λ (z : Slot). get_or (words_in z) (place_in image g) 0) (else_at (f g) (λ e. p (sym e))) ∙ old.words g (omega arith)));
       }
 
 pub dealt_none : (image : List ℕ) (limits : Limits) (stripes : List Slot) (places : List ℕ) → length stripes ≡ 64 → length places ≡ 0 → AreBlank limits 64 stripes → AreDealt image limits 0 stripes places

@@ -1,19 +1,18 @@
 -- What a closed table leaves.
-use Rattle.std.proofs.Common.{◌≡◌, ◌≢◌, ◌↔◌, ℕ, zero, suc, ◌+◌, ◌*◌, ◌%◌, ◌<◌, ◌≤◌, Bool, true, false, List, [], ◌∷◌, ◌++◌, length, get_or, Option, None, Some, IsSome, refl, sym, ap, ◌∙◌, subst, ◌⊎◌, inl, inr, ⊎_elim, arith}
+use Rattle.std.proofs.Common.{◌≡◌, ◌↔◌, ℕ, ◌+◌, ◌*◌, ◌%◌, ◌<◌, true, List, length, get_or, Option, None, Some, IsSome, refl, sym, ap, ◌∙◌, subst, ◌⊎◌, inl, inr, ⊎_elim, arith}
 use mathlib.Core.Option.{Option as Maybe, some, none, some-injective, some-ne-none}
 use lib.ListN.{get_elem?}
 use Rattle.atomic_table.specs.Table.{Final, Seen}
-use Rattle.shared_table.specs.declared.object.Object.{Object}
 use Rattle.shared_table.specs.declared.object.Object.TheVariants.{Stripe as AStripe, Desk as ADesk}
 use Rattle.shared_table.specs.declared.object.Stripe.{Stripe}
 use Rattle.shared_table.specs.declared.object.DeskState.{DeskState}
 use Rattle.shared_table.specs.declared.view.Layout.{Layout}
 use Rattle.shared_table.specs.declared.view.View.{View}
-use Rattle.shared_table.specs.Layouts.{objects_of, cells_of, first_of}
-use Rattle.shared_table.specs.Past.{Slot, Past, IsSoundSlot, Turns, turns_of, word_by, word_of, cell_of, log_of, logs_of, Lawful}
-use Rattle.shared_table.specs.Rule.{word_place, slot_place, home_by, home_of, Knows, Kept}
+use Rattle.shared_table.specs.Layouts.{objects_of, cells_of}
+use Rattle.shared_table.specs.Past.{Slot, IsSoundSlot, Turns, turns_of, word_by, word_of, log_of}
+use Rattle.shared_table.specs.Rule.{word_place, slot_place, home_by, home_of, Kept}
 use Rattle.shared_table.specs.Ends.{ends_as, left_by, left_of, stripe_in, desk_in, EndsAs}
-use Rattle.shared_table.proofs.Pasts.{if_here, if_else, some_below, sound_stays}
+use Rattle.shared_table.proofs.Pasts.{if_here, if_else, sound_stays}
 use Rattle.shared_table.proofs.Rows.{some_at}
 
 left_as : (st : Turns) (n : ℕ) (y : Slot) → n ≡ word_of st → (home_of st ≡ some y) ⊎ (home_of st ≡ none) → ends_as n y ≡ left_of st
@@ -54,16 +53,16 @@ module _ (id : ℕ) (v : View) (ws : List ℕ) (xs : List Slot) (stripes : List 
       let same = final.2 in
       let know = r.seats id v final.1.1 live in
       let found : (k : ℕ) → k < 65 → (y : Slot) × (get_elem? xs (slot_place k) ≡ some y) × (ends_as (get_or ws (word_place k) 0) y ≡ left_of (turns_of v.layout k r.past)) = λ k l.
-          let st : Turns = turns_of v.layout k r.past in
-          let word : get_or ws (word_place k) 0 ≡ word_of st = ap (λ (z : List ℕ). get_or z (word_place k) 0) (sym same) ∙ r.words k (omega arith) in
-          let home = r.homes k (omega arith) in
-          let y = some_at xs (slot_place k) (omega arith) in
-          ⊎_elim
-          (λ (t : (z : Slot) × (home_of st ≡ some z)).
-              let there = final.4 (slot_place k) t.0 (home ∙ ap some t.1) in
-              (t.0, there, left_as st (get_or ws (word_place k) 0) t.0 word (inl t.1)))
-          (λ none_there. (y.0, y.1, left_as st (get_or ws (word_place k) 0) y.0 word (inr none_there)))
-          (home_cases (home_of st)) in
+      let st : Turns = turns_of v.layout k r.past in
+      let word : get_or ws (word_place k) 0 ≡ word_of st = ap (λ (z : List ℕ). get_or z (word_place k) 0) (sym same) ∙ r.words k (omega arith) in
+      let home = r.homes k (omega arith) in
+      let y = some_at xs (slot_place k) (omega arith) in
+      ⊎_elim
+      (λ (t : (z : Slot) × (home_of st ≡ some z)).
+      let there = final.4 (slot_place k) t.0 (home ∙ ap some t.1) in
+      (t.0, there, left_as st (get_or ws (word_place k) 0) t.0 word (inl t.1)))
+      (λ none_there. (y.0, y.1, left_as st (get_or ws (word_place k) 0) y.0 word (inr none_there)))
+      (home_cases (home_of st)) in
       let stripe_left : (k : ℕ) → k < 64 → get_or stripes k None ≡ stripe_in (left_of (turns_of v.layout k r.past)) = λ k l. let f = found k (omega arith) in vs k f.0 l f.1 ∙ ap stripe_in f.2 in
       let desk_left : desk ≡ desk_in (left_of (turns_of v.layout 64 r.past)) = let f = found 64 (omega arith) in d f.0 f.1 ∙ ap desk_in f.2 in
       let sound : (k : ℕ) → k < 65 → IsSoundSlot v.layout k (turns_of v.layout k r.past).value = λ k l. sound_stays v.layout r.past k (r.sound k (omega arith)) r.lawful in

@@ -1,25 +1,23 @@
 -- Each step keeps the rule.
-use Rattle.std.proofs.Common.{◌≡◌, ◌≢◌, ℕ, zero, suc, ◌+◌, ◌-◌, ◌*◌, ◌/◌, ◌%◌, ◌^◌, ◌<◌, ◌≤◌, Bool, true, false, cond, eqb, List, [], ◌∷◌, ◌++◌, length, map, set, get_or, Option, None, Some, refl, sym, ap, ◌∙◌, subst, ◌⊎◌, inl, inr, ⊎_elim, arith, eq-eqb, ne_eqb, length-append, length-set, get_or-set_other, get_or-set_same}
-use Rattle.std.specs.Prelude.{slice_index, slice_index_or, slice_set, ◌==◌, if◌then◌else◌}
+use Rattle.std.proofs.Common.{◌≡◌, ◌≢◌, ℕ, zero, suc, ◌+◌, ◌*◌, ◌/◌, ◌%◌, ◌^◌, ◌<◌, ◌≤◌, true, eqb, List, [], ◌∷◌, ◌++◌, length, set, get_or, Option, None, Some, refl, sym, ap, ◌∙◌, subst, ◌⊎◌, inl, inr, ⊎_elim, arith, eq-eqb, ne_eqb, length-set, get_or-set_other, get_or-set_same}
 use mathlib.Core.Logic.{dite}
 use mathlib.Core.Option.{Option as Maybe, some, none, some-injective, some-ne-none}
 use native.Mathlib.Decide.{ℕ_discrete}
 use lib.ListN.{get_elem?}
 use lib.Seq.{set-get_or}
 use prog.Atomic.{either}
-use Rattle.atomic_table.specs.Table.{State, Me, Act, keeps, takes, gives, step, stepped, opening, Final, Seen, homes_after, carried_after, Allows, Splits, Joins}
-use Rattle.atomic_table.proofs.Lists.{at_set, at_index, at_map, set_here, set_else, set_again, at_longer, at_last, at_snoc}
+use Rattle.atomic_table.specs.Table.{State, keeps, takes, gives, step, stepped, opening, carried_after, Allows, Splits, Joins}
+use Rattle.atomic_table.proofs.Lists.{at_set, at_map, set_here, set_else, set_again, at_longer, at_last}
 use Rattle.shared_table.specs.declared.object.Object.{Object}
 use Rattle.shared_table.specs.declared.view.Layout.{Layout}
 use Rattle.shared_table.specs.declared.view.Item.{Item}
 use Rattle.shared_table.specs.declared.view.Item.TheVariants.{Split, Join, Take, Give, Load, Store}
 use Rattle.shared_table.specs.declared.view.Held.{Held}
 use Rattle.shared_table.specs.declared.view.View.{View}
-use Rattle.shared_table.specs.Past.{Slot, Log, Past, IsSound, IsSoundSlot, Turns, turns_at, turns_after, turns_of, word_by, word_of, cell_after, cell_of, log_of, logs_after, logs_of, IsOut, Allowed, Lawful, IsCellWord}
+use Rattle.shared_table.specs.Past.{Slot, Log, Past, IsSound, IsSoundSlot, Turns, turns_at, turns_of, word_by, word_of, cell_of, log_of, logs_after, logs_of, IsOut, Allowed, Lawful, IsCellWord}
 use Rattle.shared_table.specs.Layouts.{objects_of, cells_of, first_of}
-use Rattle.shared_table.specs.Rule.{word_place, slot_place, cell_place, HoldsObject, opener, home_by, home_of, HasTurn, Knows, Kept}
-use Rattle.shared_table.specs.Steps.{Mine, logged, holding, took, gave, loaded, stored, parted, new_seat, joined, spent, Told, IfOpening, taken, given, load_told, store_told, learned}
-use Rattle.shared_table.proofs.Rows.{some_at}
+use Rattle.shared_table.specs.Rule.{word_place, slot_place, cell_place, HoldsObject, opener, home_of, HasTurn, Knows, Kept}
+use Rattle.shared_table.specs.Steps.{Mine, logged, holding, took, gave, loaded, stored, parted, new_seat, joined, spent, IfOpening, taken, given, load_told, store_told, learned}
 use Rattle.shared_table.proofs.Pasts.{if_here, if_else, some_below, Ends, fresh_log, out_stays, log_mine, log_else, turn_stays, sound_stays, cell_word, by_stays, holder_out}
 
 words_set : (ws : List ℕ) (m k n : ℕ) (g g' : ℕ → ℕ) → word_place k < length ws → g' k ≡ n → ((j : ℕ) → j ≢ k → g' j ≡ g j) → ((j : ℕ) → j < m → get_or ws (word_place j) 0 ≡ g j) → (j : ℕ) → j < m → get_or (set ws (word_place k) n) (word_place j) 0 ≡ g' j

@@ -3,7 +3,7 @@ pub mod Keeps
 pub mod Rows
 pub mod Owns
 pub mod Turns
-pub mod Laws
+pub mod PastLaws
 pub mod Slots
 pub mod Ending
 pub mod Dealing

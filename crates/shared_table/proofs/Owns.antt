@@ -1,13 +1,13 @@
 -- A seat stays one of its table.
-use Rattle.std.proofs.Common.{◌≡◌, ◌≢◌, ℕ, ◌+◌, ◌*◌, ◌<◌, ◌≤◌, true, List, [], ◌∷◌, length, Option, None, Some, refl, sym, ap, ◌∙◌, subst, arith}
+use Rattle.std.proofs.Common.{◌≡◌, ℕ, ◌+◌, List, [], ◌∷◌, Option, None, Some, sym, ap, ◌∙◌, subst, arith}
 use Rattle.atomic_table.specs.declared.shared.Seat.{Seat}
 use Rattle.shared_table.specs.declared.object.Object.{Object}
 use Rattle.shared_table.specs.declared.view.Layout.{Layout}
 use Rattle.shared_table.specs.declared.view.Item.{Item}
 use Rattle.shared_table.specs.declared.view.Held.{Held}
 use Rattle.shared_table.specs.declared.view.View.{View}
-use Rattle.shared_table.specs.Layouts.{SharedTable, objects_of, cells_of}
-use Rattle.shared_table.specs.Past.{Slot, IsSound, IsCellWord}
+use Rattle.shared_table.specs.Layouts.{SharedTable, objects_of}
+use Rattle.shared_table.specs.Past.{Slot, IsCellWord}
 use Rattle.atomic_table.specs.Table.{rest}
 use Rattle.shared_table.specs.Rule.{slot_place, cell_place}
 use Rattle.shared_table.specs.Steps.{Mine, logged, took, IfOpening}

@@ -1,16 +1,16 @@
 -- What holds of a lawful past.
-use Rattle.std.proofs.Common.{◌≡◌, ◌≢◌, ℕ, zero, suc, ◌+◌, ◌*◌, ◌<◌, ◌≤◌, Bool, true, false, cond, eqb, List, [], ◌∷◌, ◌++◌, length, set, get_or, Option, None, Some, refl, sym, ap, ◌∙◌, subst, ⊎_elim, arith, eq-eqb, ne_eqb, length-append, length-set}
+use Rattle.std.proofs.Common.{◌≡◌, ◌≢◌, ℕ, zero, suc, ◌+◌, ◌<◌, ◌≤◌, Bool, cond, List, [], ◌∷◌, ◌++◌, length, None, Some, refl, sym, ap, ◌∙◌, subst, arith, eq-eqb, ne_eqb, length-append, length-set}
 use Rattle.std.specs.Prelude.{◌==◌, if◌then◌else◌}
 use mathlib.Core.Logic.{dite}
-use mathlib.Core.Option.{some, some-injective, some-ne-none}
+use mathlib.Core.Option.{some, some-ne-none}
 use native.Mathlib.Decide.{ℕ_discrete}
 use lib.ListN.{get_elem?}
-use Rattle.atomic_table.proofs.Lists.{at_set, set_here, set_else, set_again, at_longer, at_last, at_snoc}
+use Rattle.atomic_table.proofs.Lists.{set_else, at_longer}
 use Rattle.shared_table.specs.declared.view.Layout.{Layout}
 use Rattle.shared_table.specs.declared.view.Item.{Item}
 use Rattle.shared_table.specs.declared.view.Item.TheVariants.{Split, Join, Take, Give, Load, Store}
 use Rattle.shared_table.specs.Layouts.{first_of}
-use Rattle.shared_table.specs.Past.{Slot, Log, Past, IsSoundSlot, Turns, turns_at, turns_after, turns_of, cell_after, cell_of, log_of, logs_after, logs_of, IsOut, Allowed, Lawful, IsCellWord}
+use Rattle.shared_table.specs.Past.{Slot, Past, IsSoundSlot, Turns, turns_at, turns_after, turns_of, cell_after, cell_of, log_of, logs_after, logs_of, IsOut, Allowed, Lawful, IsCellWord}
 
 module _ {A : Type 0} where
   pub if_here : (j k : ℕ) (a b : A) → j ≡ k → (if j == k then a else b) ≡ a

@@ -1,5 +1,5 @@
 -- What the seats of a round add up to.
-use Rattle.std.proofs.Common.{◌≡◌, ◌≢◌, ℕ, zero, suc, ◌+◌, ◌-◌, ◌<◌, ◌≤◌, List, [], ◌∷◌, ◌++◌, map, length, take, drop, get_or, set, Option, None, Some, All, refl, sym, ap, ◌∙◌, subst, arith, append-nil, length-append, length-set}
+use Rattle.std.proofs.Common.{◌≡◌, ℕ, zero, suc, ◌+◌, ◌-◌, ◌<◌, ◌≤◌, List, [], ◌∷◌, ◌++◌, map, length, take, drop, get_or, set, Option, None, Some, All, refl, sym, ap, ◌∙◌, subst, arith, append-nil, length-append, length-set}
 use mathlib.Core.Logic.{dite}
 use mathlib.Core.Option.{some}
 use native.Mathlib.Decide.{ℕ_discrete}
@@ -10,9 +10,9 @@ use Rattle.shared_table.specs.declared.view.View.{View}
 use Rattle.shared_table.specs.declared.workers.Part.{Part}
 use Rattle.shared_table.specs.Layouts.{SharedTable}
 use Rattle.shared_table.specs.Past.{Slot, Log}
-use Rattle.shared_table.specs.Steps.{Mine, parted, new_seat, joined}
+use Rattle.shared_table.specs.Steps.{Mine, new_seat}
 use Rattle.shared_table.specs.Seats.{IsSeatOf, IsFree, IsOpener}
-use Rattle.shared_table.specs.Rounds.{worker_of, log, number, IsReady, Did, AreOpened, AreReady, Ran, AreBack, Grown, HasLogs, HasRound}
+use Rattle.shared_table.specs.Rounds.{worker_of, log, number, AreOpened, AreReady, Ran, AreBack, Grown, HasLogs, HasRound}
 use Rattle.shared_table.proofs.Rows.{each_more, at_front, some_at}
 
 -- a seat that only gets one more item or log holds as much as before
@@ -45,8 +45,7 @@ module _ {A : Type 0} where
       (omega arith, λ d. same, left, ap (λ (z : A). z ∷ []) same)
   drop_step (y ∷ xs) (suc i) x rest e =
       let h = drop_step xs i x rest e in
-      let up : suc i + 1 ≡ suc (i + 1) = omega arith in
-      (
+      let up : suc i + 1 ≡ suc (i + 1) = omega arith in (
         (let l = h.0 in omega arith),
         h.1,
         ap (λ (n : ℕ). drop n (y ∷ xs)) up ∙ h.2,
@@ -142,12 +141,11 @@ module _ {W : Type 0} where
         worked = λ i d l.
             let p : Part W = (some_at ps i (omega arith)).0 in
             let did = (ran i p (omega arith)).worked in
-            let q : Part W = get_or qs i p in
-            (
+            let q : Part W = get_or qs i p in (
               log q,
               ap (λ (z : List (Option Log)). get_elem? z (length v.logs + i)) e ∙ (ap (λ (z : ℕ). get_elem? x.logs (z + i)) (sym m) ∙ kept.2 i p (omega arith)),
               subst (λ (z : W × W). works t z.0 (log q) z.1)
-              (λ j. ((sym (map_at ps i p d (omega arith)) ∙ ap (λ (l : List W). get_or l i d) opened.workers_are) j, (sym (map_at qs i p d (omega arith)) ∙ ap (λ (l : List W). get_or l i d) (sym out)) j))
-              did,
+                  (λ j. ((sym (map_at ps i p d (omega arith)) ∙ ap (λ (l : List W). get_or l i d) opened.workers_are) j, (sym (map_at qs i p d (omega arith)) ∙ ap (λ (l : List W). get_or l i d) (sym out)) j))
+                  did,
             );
       }

@@ -1,5 +1,5 @@
 -- For callers: from a take to its give.
-use Rattle.std.proofs.Common.{◌≡◌, ℕ, [], ◌∷◌, ◌++◌, None, Some, refl, ap, ◌∙◌}
+use Rattle.std.proofs.Common.{◌≡◌, ℕ, refl, ap, ◌∙◌}
 use Rattle.shared_table.specs.declared.object.Object.{Object}
 use Rattle.shared_table.specs.declared.view.Item.{Item}
 use Rattle.shared_table.specs.Steps.{Mine, logged, holding}

@@ -1,5 +1,5 @@
 -- What a closed table leaves.
-use Rattle.std.specs.Prelude.{◌≡◌, ◌↔◌, ℕ, ◌+◌, ◌%◌, ◌<◌, ◌≤◌, Bool, true, false, ◌==◌, if◌then◌else◌, List, length, slice_index, slice_index_or, Option, None, Some, IsSome}
+use Rattle.std.specs.Prelude.{◌≡◌, ◌↔◌, ℕ, ◌%◌, ◌<◌, ◌≤◌, Bool, true, false, ◌==◌, if◌then◌else◌, List, slice_index, slice_index_or, Option, None, Some, IsSome}
 use Rattle.shared_table.specs.declared.object.Object.TheVariants.{Desk as ADesk, Stripe as AStripe}
 use Rattle.shared_table.specs.declared.object.Stripe.{Stripe}
 use Rattle.shared_table.specs.declared.object.DeskState.{DeskState}

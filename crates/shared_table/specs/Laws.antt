@@ -1,9 +1,13 @@
 -- The turns of one object in a past.
-use Rattle.std.specs.Prelude.{◌≡◌, ℕ, zero, suc, Bool, true, false, ◌+◌, ◌==◌, if◌then◌else◌, List, [], ◌∷◌, ◌++◌, Option, None, Some}
+use Rattle.std.specs.Prelude.{◌≡◌, ◌≢◌, ◌<◌, ◌≤◌, length, ℕ, zero, suc, Bool, true, false, ◌+◌, ◌==◌, if◌then◌else◌, List, [], ◌∷◌, ◌++◌, Option, None, Some}
 use Rattle.shared_table.specs.declared.object.Object.{Object}
 use Rattle.shared_table.specs.declared.view.Item.{Item}
 use Rattle.shared_table.specs.declared.view.Item.TheVariants.{Split, Join, Take, Give, Load, Store}
-use Rattle.shared_table.specs.Past.{Slot, Past}
+use mathlib.Core.Option.{some}
+use lib.ListN.{get_elem?}
+use Rattle.shared_table.specs.declared.view.View.{View}
+use Rattle.shared_table.specs.Layouts.{first_of}
+use Rattle.shared_table.specs.Past.{Slot, Log, Past, log_of, Lawful}
 
 -- a finished turn: its number, the value found and the one left
 pub record Turn : Type 0 where
@@ -88,3 +92,17 @@ splits_in (Store c w ∷ l) = splits_in l
 abbrev pub below : ℕ → List ℕ
 below zero = []
 below (suc n) = below n ++ n ∷ []
+
+-- no other seat is out: the opening seat has the log of each number that was made
+abbrev pub AllJoined : View → Type 0
+AllJoined v = (m : ℕ) → m ≢ 0 → m < length v.logs → (l : Log) × (get_elem? v.logs m ≡ some (Some l))
+
+-- There is one order of all items of all logs that the seat has. The takes and gives of each object alternate in it, and each turn found what the one before it left.
+pub record HasLineUp (v : View) : Type 0 where
+  pub past : Past
+  pub lawful : Lawful v.layout past
+  pub own : v.log ≡ log_of 0 past
+  pub others : (m : ℕ) → m ≢ 0 → m < length v.logs → get_elem? v.logs m ≡ some (Some (log_of m past))
+  pub no_more : (m : ℕ) → length v.logs ≤ m → log_of m past ≡ []
+  pub alternate : (k : ℕ) → InTurn false 1 (marks k past)
+  pub follow : (k : ℕ) → FollowFrom 1 (first_of v.layout k) (turn_list k past)

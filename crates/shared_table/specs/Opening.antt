@@ -1,8 +1,7 @@
 -- The objects while they are made.
-use Rattle.std.specs.Prelude.{◌≡◌, ℕ, ◌<◌, List, [], ◌∷◌, length, slice_index, slice_index_or, Option, None, Some}
+use Rattle.std.specs.Prelude.{◌≡◌, ℕ, ◌<◌, List, [], ◌∷◌, length, slice_index, slice_index_or, None, Some}
 use Rattle.run_record.specs.declared.limits.Limits.{Limits}
 use Rattle.elf_image.specs.File.{initial_word}
-use Rattle.shared_table.specs.declared.object.Object.{Object}
 use Rattle.shared_table.specs.declared.object.Object.TheVariants.{Stripe, Desk}
 use Rattle.shared_table.specs.Layouts.{stripe_at, place_in, count_below}
 use Rattle.shared_table.specs.Past.{Slot}

@@ -1,5 +1,5 @@
 -- The rule of the table.
-use Rattle.std.specs.Prelude.{◌≡◌, ℕ, ◌+◌, ◌*◌, ◌<◌, Bool, true, false, List, [], ◌∷◌, ◌++◌, length, slice_index, Option, None, Some}
+use Rattle.std.specs.Prelude.{◌≡◌, ℕ, ◌+◌, ◌*◌, ◌<◌, true, [], ◌∷◌, length, slice_index, Option, None, Some}
 use mathlib.Core.Option.{Option as Maybe, some, none}
 use lib.ListN.{get_elem?}
 use Rattle.atomic_table.specs.Table.{State}
@@ -7,7 +7,7 @@ use Rattle.shared_table.specs.declared.view.Held.{Held}
 use Rattle.shared_table.specs.declared.view.View.{View}
 use Rattle.shared_table.specs.declared.view.Layout.{Layout}
 use Rattle.shared_table.specs.Layouts.{objects_of, cells_of, first_of}
-use Rattle.shared_table.specs.Past.{Slot, IsSoundSlot, Log, Past, Turns, turns_at, turns_of, word_of, cell_of, log_of, logs_of, IsOut, Lawful}
+use Rattle.shared_table.specs.Past.{Slot, IsSoundSlot, Past, Turns, turns_at, turns_of, word_of, cell_of, log_of, logs_of, IsOut, Lawful}
 
 abbrev pub home_by : Slot → Option ℕ → Maybe Slot
 home_by x None = some x

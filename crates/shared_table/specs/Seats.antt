@@ -1,5 +1,5 @@
 -- A seat at its table.
-use Rattle.std.specs.Prelude.{◌≡◌, ℕ, true, List, [], ◌∷◌, Option, None, Some}
+use Rattle.std.specs.Prelude.{◌≡◌, ℕ, true, [], ◌∷◌, None, Some}
 use Rattle.atomic_table.specs.declared.shared.Seat.{Seat}
 use Rattle.shared_table.specs.declared.object.Object.{Object}
 use Rattle.shared_table.specs.declared.view.Held.{Held}

@@ -1,6 +1,5 @@
 -- What each step does to a view, and what it tells.
-use Rattle.std.specs.Prelude.{◌≡◌, ◌≢◌, ℕ, ◌+◌, ◌/◌, ◌<◌, Bool, true, false, List, [], ◌∷◌, ◌++◌, length, slice_set, Option, None, Some}
-use lib.ListN.{get_elem?}
+use Rattle.std.specs.Prelude.{◌≡◌, ◌≢◌, ℕ, ◌+◌, ◌/◌, true, false, [], ◌∷◌, ◌++◌, length, slice_set, Option, None, Some}
 use Rattle.atomic_table.specs.Table.{Me, Step}
 use Rattle.shared_table.specs.declared.object.Object.{Object}
 use Rattle.shared_table.specs.declared.view.Item.{Item}
@@ -9,7 +8,7 @@ use Rattle.shared_table.specs.declared.view.Held.{Held}
 use Rattle.shared_table.specs.declared.view.View.{View}
 use Rattle.shared_table.specs.declared.view.Layout.{Layout}
 use Rattle.shared_table.specs.Rule.{word_place, slot_place, cell_place}
-use Rattle.shared_table.specs.Past.{Slot, Log, Past, log_of, logs_of, Lawful, IsSound, IsCellWord}
+use Rattle.shared_table.specs.Past.{Slot, Past, log_of, logs_of, Lawful, IsSound, IsCellWord}
 
 abbrev pub Mine : Type 0
 Mine = Me Slot View

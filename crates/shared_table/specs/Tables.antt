@@ -1,8 +1,8 @@
 -- What holds of a table's own memory.
-use Rattle.std.specs.Prelude.{◌≡◌, ℕ, ◌+◌, ◌*◌, ◌<◌, ◌≤◌, List, length}
+use Rattle.std.specs.Prelude.{◌≡◌, ℕ, ◌+◌, ◌*◌, ◌≤◌, List, length}
 use Rattle.atomic_table.specs.Seated.{TableId}
 use Rattle.shared_table.specs.declared.view.Layout.{Layout}
-use Rattle.shared_table.specs.Layouts.{objects_of, cells_of}
+use Rattle.shared_table.specs.Layouts.{objects_of}
 
 -- There are 65 objects, whose words and slots stand apart, and behind their words four cells for each granule. There is a place for each granule.
 pub record IsTable (id : TableId) (lay : Layout) (granules : ℕ) (places : List ℕ) : Type 0 where

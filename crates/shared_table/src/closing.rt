@@ -86,11 +86,7 @@ pub(crate) fn take_desk(table: &mut Table<Slot, Global>) -> Option<DeskState>
     desk_of(value)
 }
 
-pub(crate) fn copy_words(
-    table: &Table<Slot, Global>,
-    cells: usize,
-    mut room: Vec<u64>,
-) -> Vec<u64>
+pub(crate) fn copy_words(table: &Table<Slot, Global>, cells: usize, mut room: Vec<u64>) -> Vec<u64>
     requires size { table.now.words.len ≡ 520 + cells }
     requires full { Filled table.now.words.filled 0 table.now.words.len }
     requires room { (vec_len room ≡ 0) × (cells ≤ vec_capacity room) }

@@ -10,17 +10,16 @@
 #![tactic(auto)]
 
 mod closing;
+pub mod laws;
 mod object;
 mod opening;
 mod plays;
 mod shared;
-#[cfg(test)]
-mod tests;
 mod view;
 mod workers;
 
-pub use object::{DeskState, GuestWords, Object, Stripe};
 pub use guest_memory::Reservations;
+pub use object::{DeskState, GuestWords, Object, Stripe};
 pub use plays::SharedSeat;
 pub use shared::{CellWords, Closed, Shared, Stripes};
 pub use workers::{Worker, round};

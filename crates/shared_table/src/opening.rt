@@ -98,7 +98,11 @@ pub(crate) fn sizes_of(alloc: Global, stripes: &[Slot]) -> Result<Vec<u32>, NoMe
 }
 
 /// The desk behind the stripes.
-pub(crate) fn with_desk(alloc: Global, limits: &Limits, mut objects: Vec<Slot>) -> Result<Vec<Slot>, NoMemory>
+pub(crate) fn with_desk(
+    alloc: Global,
+    limits: &Limits,
+    mut objects: Vec<Slot>,
+) -> Result<Vec<Slot>, NoMemory>
     requires { AreDeskLimits limits.now }
     ensures { IfOk result (λ v. v.items ≡ objects.items ++ first_desk limits.now ∷ []) }
 {

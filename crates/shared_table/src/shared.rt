@@ -56,7 +56,7 @@ impl Model for Shared {
     } };
 
     ghost invariant = { λ s. IsTable s.table.shared.table_id (layout_of s.table.shared.key) s.granules s.places.items
-      × (vec_len s.stripes ≡ 0) × (64 ≤ vec_capacity s.stripes) × (vec_len s.cells ≡ 0) × (4 * s.granules ≤ vec_capacity s.cells) };
+        × (vec_len s.stripes ≡ 0) × (64 ≤ vec_capacity s.stripes) × (vec_len s.cells ≡ 0) × (4 * s.granules ≤ vec_capacity s.cells) };
 }
 
 /// What a table leaves. A value is `None` where a seat had it out.

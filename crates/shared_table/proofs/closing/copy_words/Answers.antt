@@ -1,4 +1,4 @@
-use Rattle.std.proofs.Common.{rules, arith, ◌≡◌, ℕ, ◌+◌, ◌∷◌, ◌++◌, [], List, length, get_or, sym, ap, ◌∙◌, subst}
+use Rattle.std.proofs.Common.{rules, ◌≡◌, ℕ, ◌+◌, List, length, get_or, sym, ap, ◌∙◌}
 use Rattle.shared_table.proofs.Rows.{each_more, at_get}
 use Rattle.shared_table.proofs.closing.copy_words.Goals as goal
 

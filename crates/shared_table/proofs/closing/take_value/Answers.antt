@@ -1,6 +1,5 @@
-use Rattle.std.proofs.Common.{◌≡◌, ℕ, ◌+◌, ◌*◌, Bool, false, List, set, get_or, sym, ap, ◌∙◌, subst}
-use mathlib.Core.Option.{some, some-injective}
-use lib.ListN.{get_elem?}
+use Rattle.std.proofs.Common.{◌≡◌, ℕ, ◌+◌, ◌*◌, Bool, false, List, set, sym, ap, ◌∙◌, subst}
+use mathlib.Core.Option.{some-injective}
 use Rattle.shared_table.specs.Past.{Slot}
 use Rattle.shared_table.specs.Ends.{ends_as, Filled, AreEmpty}
 use Rattle.shared_table.proofs.Rows.{at_get}

@@ -1,4 +1,4 @@
-use Rattle.std.proofs.Common.{rules, arith, ◌≡◌, ℕ, ◌+◌, ◌<◌, List, [], ◌∷◌, ◌++◌, length, get_or, None, sym, subst}
+use Rattle.std.proofs.Common.{rules, ◌≡◌, ℕ, List, [], length, get_or, None, sym, subst}
 use Rattle.shared_table.specs.Past.{Slot}
 use Rattle.shared_table.specs.Opening.{IsBlank, words_in}
 use Rattle.shared_table.proofs.Rows.{each_more}

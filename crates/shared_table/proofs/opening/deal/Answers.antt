@@ -1,10 +1,10 @@
-use Rattle.std.proofs.Common.{rules, arith, ◌≡◌, ℕ, ◌+◌, ◌%◌, ◌/◌, ◌<◌, List, [], ◌∷◌, ◌++◌, length, set, get_or, None, sym, ap, ◌∙◌, subst}
+use Rattle.std.proofs.Common.{rules, arith, ◌≡◌, ℕ, ◌+◌, ◌%◌, ◌/◌, ◌<◌, List, [], ◌∷◌, ◌++◌, length, set, None, sym, ap, ◌∙◌, subst}
 use Rattle.elf_image.specs.File.{granules_of, initial_word}
 use Rattle.shared_table.specs.Past.{Slot}
 use Rattle.shared_table.specs.Layouts.{stripe_at}
 use Rattle.shared_table.specs.Opening.{AreDealt, IsBlank, words_in, slot_at}
 use Rattle.shared_table.proofs.Rows.{read_at}
-use Rattle.shared_table.proofs.Dealing.{dealt_more, dealt_none, count_few}
+use Rattle.shared_table.proofs.Dealing.{dealt_more, count_few}
 use Rattle.shared_table.proofs.opening.deal.Goals as goal
 
 pub word_count-requires : goal.word_count-requires
@@ -36,10 +36,10 @@ loop-granule-preserved c =
     let was : c.index.result.now ≡ slot_at stripes (stripe_at image n) = read_at stripes i c.index.result.now None (omega arith) c.index.ensures ∙ ap (slot_at stripes) at in
     let blank : IsBlank limits c.index_mut.result.now = subst (IsBlank limits) (sym is) (inv.blank (stripe_at image n) low) in
     let more : words_in c.append.new.slot ≡ words_in (slot_at stripes (stripe_at image n)) ++ initial_word image n ∷ [] =
-        c.in_ok-append.ensures.words limits blank ∙ (λ j. words_in (is j) ++ (let e : c.initial_word.result ≡ initial_word image n = c.initial_word.ensures in e) j ∷ []) in
+    c.in_ok-append.ensures.words limits blank ∙ (λ j. words_in (is j) ++ (let e : c.initial_word.result ≡ initial_word image n = c.initial_word.ensures in e) j ∷ []) in
     let got = dealt_more image limits n stripes c.loop-granule.places.items c.append.new.slot inv low (c.append.ensures.blank limits blank) more in
     let pushed : c.push.new.self.items ≡ c.loop-granule.places.items ++ length (words_in (slot_at stripes (stripe_at image n))) ∷ [] =
-        c.in_ok-push.ensures.items ∙ ap (λ (z : ℕ). c.loop-granule.places.items ++ z ∷ []) (c.word_count.ensures ∙ ap (λ (z : Slot). length (words_in z)) was) in
+    c.in_ok-push.ensures.items ∙ ap (λ (z : ℕ). c.loop-granule.places.items ++ z ∷ []) (c.word_count.ensures ∙ ap (λ (z : Slot). length (words_in z)) was) in
     subst (λ (z : ℕ × List ℕ). AreDealt image limits (n + 1) (set stripes z.0 c.append.new.slot) z.1) (λ j. (sym at j, sym pushed j)) got
 
 pub returns : goal.returns

@@ -1,4 +1,3 @@
-use Rattle.std.proofs.Common.{◌≡◌, ◌≤◌}
 use Rattle.shared_table.specs.Opening.{AreDealt}
 use Rattle.shared_table.proofs.opening.deal.Given as goal
 

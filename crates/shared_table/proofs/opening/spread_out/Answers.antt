@@ -1,4 +1,4 @@
-use Rattle.std.proofs.Common.{rules, ◌≡◌, sym, ◌∙◌, append_assoc}
+use Rattle.std.proofs.Common.{sym, ◌∙◌, append_assoc}
 use Rattle.shared_table.proofs.Dealing.{all_spread}
 use Rattle.shared_table.proofs.opening.spread_out.Goals as goal
 

@@ -1,11 +1,8 @@
-use Rattle.std.proofs.Common.{rules, arith, ◌≡◌, ◌≢◌, ℕ, ◌+◌, ◌-◌, ◌<◌, ◌≤◌, ◌∷◌, ◌++◌, [], List, map, take, drop, get_or, length, Option, Some, sym, ap, ◌∙◌, subst, refl, length-append, vec_len}
+use Rattle.std.proofs.Common.{rules, arith, ◌≡◌, ℕ, ◌+◌, ◌-◌, ◌∷◌, ◌++◌, [], List, map, take, drop, length, sym, ap, ◌∙◌, subst, refl, length-append, vec_len}
 use Rattle.std.specs.Vec.Iter.{into_iter_items}
-use mathlib.Core.Option.{some}
-use lib.ListN.{get_elem?}
 use Rattle.shared_table.specs.declared.workers.Part.{Part}
-use Rattle.shared_table.specs.Past.{Log}
 use Rattle.shared_table.specs.Steps.{Mine}
-use Rattle.shared_table.specs.Rounds.{worker_of, log, number}
+use Rattle.shared_table.specs.Rounds.{worker_of, number}
 use Rattle.shared_table.proofs.Rounding.{no_items, still_opener, drop_step, drop_none, take_all, map_snoc, logs_more}
 use Rattle.shared_table.proofs.workers.join_all.Goals as goal
 

@@ -1,7 +1,7 @@
-use Rattle.std.proofs.Common.{rules, arith, ◌≡◌, ℕ, ◌+◌, ◌<◌, ◌∷◌, ◌++◌, [], List, map, length, sym, ap, ◌∙◌, subst, refl, length-append}
+use Rattle.std.proofs.Common.{rules, arith, ◌≡◌, ℕ, ◌+◌, ◌∷◌, ◌++◌, [], List, map, length, sym, ap, ◌∙◌, subst, refl, length-append}
 use Rattle.std.specs.Vec.Iter.{into_iter_items}
 use Rattle.shared_table.specs.declared.workers.Part.{Part}
-use Rattle.shared_table.specs.Steps.{Mine, parted}
+use Rattle.shared_table.specs.Steps.{Mine}
 use Rattle.shared_table.specs.Rounds.{worker_of, Grown, AreOpened}
 use Rattle.shared_table.proofs.Rounding.{no_items, still_opener, grown_more, left_more, none_left, as_many, opened_more, opened_none}
 use Rattle.shared_table.proofs.workers.open.Goals as goal

@@ -1,8 +1,8 @@
-use Rattle.std.proofs.Common.{rules, arith, ◌≡◌, ◌≤◌, ◌-◌, ◌+◌, ℕ, List, length, ap, subst, vec_len, sym, ◌∙◌, refl}
+use Rattle.std.proofs.Common.{rules, arith, ◌≡◌, ◌-◌, ℕ, List, length, ap, subst, vec_len, sym, ◌∙◌}
 use Rattle.shared_table.specs.declared.workers.Part.{Part}
 use Rattle.shared_table.specs.Steps.{Mine}
 use Rattle.shared_table.specs.Rounds.{AreBack, Grown, HasLogs}
-use Rattle.shared_table.proofs.Rounding.{as_many, still_opener, all_ready, all_back, has_round}
+use Rattle.shared_table.proofs.Rounding.{as_many, all_ready, all_back, has_round}
 use Rattle.shared_table.proofs.workers.round.Goals as goal
 
 pub run-done-requires-clause-ready : goal.run-done-requires-clause-ready

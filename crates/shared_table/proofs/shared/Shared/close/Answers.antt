@@ -1,9 +1,8 @@
-use Rattle.std.proofs.Common.{rules, arith, ◌≡◌, ℕ, ◌+◌, ◌<◌, List, length, get_or, Option, None, sym, ap, ◌∙◌, subst}
+use Rattle.std.proofs.Common.{rules, arith, ◌≡◌, ℕ, List, length, get_or, Option, sym, ap, ◌∙◌, subst}
 use lib.ListN.{get_elem?}
 use mathlib.Core.Option.{some}
 use Rattle.shared_table.specs.declared.object.Stripe.{Stripe}
 use Rattle.shared_table.specs.declared.view.Layout.{Layout}
-use Rattle.shared_table.specs.Layouts.{cells_of}
 use Rattle.shared_table.specs.Past.{Slot}
 use Rattle.shared_table.specs.Ends.{EndsAs, desk_in, ends_as}
 use Rattle.shared_table.specs.Rule.{slot_place, word_place}

@@ -1,4 +1,4 @@
-use Rattle.std.proofs.Common.{rules, arith, refl, sym, ap, ◌∙◌, subst}
+use Rattle.std.proofs.Common.{rules, sym, ap, ◌∙◌, subst}
 use Rattle.std.proofs.Common.{◌≡◌, [], ◌∷◌, Some}
 use Rattle.shared_table.specs.declared.view.Layout.{Layout}
 use Rattle.shared_table.specs.Past.{IsSound}

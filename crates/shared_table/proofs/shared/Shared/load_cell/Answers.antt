@@ -1,4 +1,4 @@
-use Rattle.std.proofs.Common.{rules, arith}
+use Rattle.std.proofs.Common.{rules}
 use Rattle.shared_table.proofs.Keeps.{loads_at}
 use Rattle.shared_table.proofs.Owns.{cell_spot, stays_logged, word_of_table}
 use Rattle.shared_table.proofs.shared.Shared.load_cell.Goals as goal

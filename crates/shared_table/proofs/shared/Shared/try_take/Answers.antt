@@ -1,4 +1,4 @@
-use Rattle.std.proofs.Common.{rules, arith, refl, sym, ap, ◌∙◌, ◌/◌, Some, ◌∷◌, ◌≡◌, subst, IfSome, IfNone}
+use Rattle.std.proofs.Common.{rules, refl, sym, ap, ◌∙◌, ◌/◌, Some, ◌∷◌, ◌≡◌, subst, IfSome, IfNone}
 use Rattle.atomic_table.specs.Table.{rest}
 use Rattle.shared_table.specs.declared.object.Object.{Object}
 use Rattle.shared_table.specs.Past.{Slot}

@@ -1,21 +1,22 @@
 -- What a lawful past says of logs, turns and cells.
-use Rattle.std.proofs.Common.{◌≡◌, ◌≢◌, ℕ, zero, suc, ◌+◌, ◌*◌, ◌%◌, ◌<◌, ◌≤◌, get_or, Bool, true, false, List, [], ◌∷◌, ◌++◌, length, set, Option, None, Some, refl, sym, ap, ◌∙◌, subst, ◌⊎◌, inl, inr, ⊎_elim, arith, length-append, length-set, append-nil}
+use Rattle.std.proofs.Common.{◌≡◌, ◌≢◌, ℕ, zero, suc, ◌+◌, ◌*◌, ◌%◌, ◌<◌, get_or, Bool, true, false, List, [], ◌∷◌, ◌++◌, length, Option, None, Some, refl, sym, ap, ◌∙◌, subst, ⊎_elim, arith, length-append, length-set, append-nil}
 use mathlib.Core.Logic.{dite}
 use mathlib.Core.Option.{some, some-injective, some-ne-none}
 use native.Mathlib.Decide.{ℕ_discrete}
 use lib.ListN.{get_elem?}
-use Rattle.atomic_table.proofs.Lists.{at_set, set_here, set_else, at_longer, at_snoc}
-use Rattle.shared_table.specs.declared.object.Object.{Object}
+use Rattle.atomic_table.proofs.Lists.{at_set, set_else, at_longer, at_snoc}
 use Rattle.shared_table.specs.declared.view.Layout.{Layout}
 use Rattle.shared_table.specs.declared.view.Item.{Item}
 use Rattle.shared_table.specs.declared.view.Item.TheVariants.{Split, Join, Take, Give, Load, Store}
 use Rattle.shared_table.specs.Layouts.{objects_of, first_of}
-use Rattle.shared_table.specs.Past.{Slot, Log, Past, Turns, turns_at, turns_after, turns_of, word_by, word_of, cell_of, log_of, logs_after, logs_of, IsOut, Allowed, Lawful}
+use Rattle.shared_table.specs.Past.{Slot, Log, Past, Turns, turns_at, turns_of, word_by, word_of, cell_of, log_of, logs_of, IsOut, Allowed, Lawful}
 use Rattle.atomic_table.specs.Table.{State}
 use Rattle.shared_table.specs.declared.view.View.{View}
-use Rattle.shared_table.specs.Rule.{word_place, HoldsObject, Knows, Kept}
-use Rattle.shared_table.specs.Laws.{Turn, turn, turn_after, turn_list, FollowFrom, last_left, other, mark_after, marks, next_number, InTurn, ends_open, ends_number, is_open, splits_in, below}
-use Rattle.shared_table.proofs.Pasts.{if_here, if_else, some_below, log_mine, log_else, fresh_log, holder_out}
+use Rattle.shared_table.specs.declared.view.Held.{Held}
+use Rattle.shared_table.specs.Steps.{Told}
+use Rattle.shared_table.specs.Rule.{word_place, HoldsObject, HasTurn, Kept}
+use Rattle.shared_table.specs.Laws.{Turn, turn, turn_list, FollowFrom, last_left, other, marks, next_number, InTurn, ends_open, ends_number, is_open, splits_in, below, AllJoined, HasLineUp}
+use Rattle.shared_table.proofs.Pasts.{if_here, if_else, log_else, fresh_log, holder_out}
 
 snoc_length : {A : Type 0} (l : List A) (x : A) → length (l ++ x ∷ []) ≡ suc (length l)
 snoc_length [] x = refl
@@ -216,3 +217,36 @@ module _ (lay : Layout) where
   splits_are ((n, Give j t f g) ∷ past) h = ap (λ (z : List ℕ). 0 ∷ z) (no_split past n (Give j t f g) refl) ∙ splits_are past h.2
   splits_are ((n, Load c w) ∷ past) h = ap (λ (z : List ℕ). 0 ∷ z) (no_split past n (Load c w) refl) ∙ splits_are past h.2
   splits_are ((n, Store c w) ∷ past) h = ap (λ (z : List ℕ). 0 ∷ z) (no_split past n (Store c w) refl) ∙ splits_are past h.2
+
+  -- the word of an object that a live seat has
+  pub held_word : (s : State Slot View) (r : Kept lay s) (j : ℕ) (v : View) (h : Held) → get_elem? s.views j ≡ some v → v.live ≡ true → v.held ≡ Some h → get_or s.words (word_place h.object) 0 ≡ 2 * h.done + 1
+  held_word s r j v h at live held =
+      let turn : HasTurn lay r.past v.number (Some h) = subst (HasTurn lay r.past v.number) held (r.seats j v at live).turn in
+      r.words h.object turn.1 ∙ ap word_of turn.0
+
+  -- no two live seats have the turn of one object
+  pub one_holder : (s : State Slot View) (r : Kept lay s) (i j : ℕ) (v w : View) (h g : Held) → get_elem? s.views i ≡ some v → get_elem? s.views j ≡ some w → v.live ≡ true → w.live ≡ true → v.held ≡ Some h → w.held ≡ Some g → h.object ≡ g.object → i ≡ j
+  one_holder s r i j v w h g at there live alive mine theirs same =
+      let one : HasTurn lay r.past v.number (Some h) = subst (HasTurn lay r.past v.number) mine (r.seats i v at live).turn in
+      let two : HasTurn lay r.past w.number (Some g) = subst (HasTurn lay r.past w.number) theirs (r.seats j w there alive).turn in
+      let by : Some v.number ≡ Some w.number = ap (λ (z : Turns). z.by) (sym one.0) ∙ (ap (λ (k : ℕ). (turns_of lay k r.past).by) same ∙ ap (λ (z : Turns). z.by) two.0) in
+      r.apart i j v w at there live alive (cc)
+
+-- where no other seat is out, the logs have a line-up
+pub line_up : (v : View) → Told v → AllJoined v → HasLineUp v
+line_up v told all =
+    let past = told.0 in
+    let h = told.1 in
+    let logs : v.logs ≡ logs_of past = told.2 in
+    record {
+      past = past;
+      lawful = h;
+      own = told.3;
+      others = λ m ne l.
+          let kept = all m ne l in
+          let is = kept_log v.layout past m kept.0 h (ap (λ (z : List (Option Log)). get_elem? z m) (sym logs) ∙ kept.1) in
+          kept.1 ∙ ap (λ (z : Log). some (Some z)) is;
+      no_more = λ m l. fresh_log v.layout past m h (let e = ap (λ (z : List (Option Log)). length z) logs in omega arith);
+      alternate = λ k. (in_turn v.layout past k h).0;
+      follow = λ k. (turns_follow v.layout past k h).0;
+    }
