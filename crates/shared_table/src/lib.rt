@@ -15,6 +15,8 @@ mod object;
 mod opening;
 mod plays;
 mod shared;
+#[cfg(test)]
+mod tests;
 mod view;
 mod workers;
 
