@@ -71,7 +71,7 @@ impl GuestWords {
     }
 }
 
-/// A stripe of guest memory: the granules whose number of eight bytes has one remainder modulo 64.
+/// A stripe of guest memory: the granules whose address, divided by eight, has one remainder modulo 64.
 #[derive(Drop)]
 pub struct Stripe {
     /// The words of its granules, by rising granule.
