@@ -1,0 +1,10 @@
+pub mod Pasts
+pub mod Keeps
+pub mod Rows
+pub mod Owns
+pub mod Turns
+pub mod PastLaws
+pub mod Slots
+pub mod Ending
+pub mod Dealing
+pub mod Rounding

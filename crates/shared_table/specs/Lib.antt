@@ -1,0 +1,11 @@
+pub mod Layouts
+pub mod Plans
+pub mod Opening
+pub mod Tables
+pub mod Past
+pub mod Rule
+pub mod Steps
+pub mod Seats
+pub mod Ends
+pub mod Rounds
+pub mod Laws
