@@ -1,0 +1,55 @@
+-- The program of a seed and a size: main makes three threads, each of which does so many operations.
+use Rattle.std.specs.Prelude.{ℕ, ◌+◌, ◌*◌, ◌%◌, ◌==◌, nat_lt, if◌then◌else◌, List, ◌++◌, length}
+use Rattle.std.specs.List.{flat_map, range_with_len}
+use Rattle.gen_program.specs.Draws.{start, after, draw}
+use Rattle.gen_program.specs.Notation.{E, N, T, read8, write8, atomic64_fetch_add, func_entry, func_exit, post_lock, pre_unlock}
+use Rattle.gen_program.specs.Executable.{executable}
+
+-- the operation of two draws: the first chooses what is done, and the second where in the data
+abbrev pub at_offset : ℕ → ℕ → List ℕ
+at_offset kind off =
+    if nat_lt kind 4 then E read8 off 0 0
+    else if kind == 4 then E write8 off 0 0
+    else if kind == 5 then E atomic64_fetch_add (1024 + off) 1 4
+    else if kind == 6 then E func_entry off 0 0 ++ E func_exit 0 0 0
+    else E post_lock 2040 0 0 ++ (E write8 off 0 0 ++ E pre_unlock 2040 0 0)
+
+unfoldable pub operation : ℕ → ℕ → List ℕ
+operation r q = at_offset (r % 8) (8 * (q % 64))
+
+-- operation k of a thread, which begins with the draws from a state on: each operation takes two
+abbrev pub operation_at : ℕ → ℕ → List ℕ
+operation_at x k = operation (draw x (2 * k)) (draw x (2 * k + 1))
+
+-- a thread of so many operations
+unfoldable pub operations : ℕ → ℕ → List ℕ
+operations x count = flat_map (operation_at x) (range_with_len 0 count)
+
+unfoldable pub thread : ℕ → ℕ → List ℕ
+thread x size = operations x size ++ T
+
+-- the three threads: each goes on with the draws where the one before it ended
+abbrev pub t1 : ℕ → ℕ → List ℕ
+t1 seed size = thread (start seed) size
+
+abbrev pub t2 : ℕ → ℕ → List ℕ
+t2 seed size = thread (after (start seed) (2 * size)) size
+
+abbrev pub t3 : ℕ → ℕ → List ℕ
+t3 seed size = thread (after (start seed) (4 * size)) size
+
+-- the address of the word behind so many words of code
+abbrev pub address : ℕ → ℕ
+address words = 0x10000 + 4 * words
+
+-- main, whose 14 words stand before the threads, which have these words
+unfoldable pub main_of : List ℕ → List ℕ → List ℕ
+main_of first second =
+    N (address 14) ++ (N (address (14 + length first)) ++ (N (address (14 + length first + length second)) ++ T))
+
+unfoldable pub code : ℕ → ℕ → List ℕ
+code seed size = main_of (t1 seed size) (t2 seed size) ++ (t1 seed size ++ (t2 seed size ++ t3 seed size))
+
+-- the file of a seed and a size
+unfoldable pub program : ℕ → ℕ → List ℕ
+program seed size = executable (code seed size)
