@@ -90,5 +90,5 @@ image_of-headers s rest has some small =
     let long : length (headers s ++ rest) ≡ 176 + s = omega (arith, length-append (headers s) rest, length-headers s) in
     let one = headers_pass s rest (omega arith) in
     let two : segment_fault (length (headers s ++ rest)) (segments (headers s ++ rest)) ≡ None =
-        ap (segment_fault (length (headers s ++ rest))) (are_segments s rest some small) ∙ segments_pass (length (headers s ++ rest)) s (omega arith) some small in
+    ap (segment_fault (length (headers s ++ rest))) (are_segments s rest some small) ∙ segments_pass (length (headers s ++ rest)) s (omega arith) some small in
     image_passes (headers s ++ rest) one two (memories_pass s rest some small)

@@ -62,11 +62,11 @@ length-at_offset kind off =
     let one : (number o v w : ℕ) → length (E number o v w) ≤ 27 = λ number o v w. omega (arith, length-E number o v w) in
     let two : (number o m p : ℕ) → length (E number o 0 0 ++ E m p 0 0) ≤ 27 = λ number o m p. omega (arith, length-append (E number o 0 0) (E m p 0 0), length-E number o 0 0, length-E m p 0 0) in
     let three : length (E post_lock 2040 0 0 ++ (E write8 off 0 0 ++ E pre_unlock 2040 0 0)) ≤ 27 =
-        omega (arith, length-append (E post_lock 2040 0 0) (E write8 off 0 0 ++ E pre_unlock 2040 0 0), length-append (E write8 off 0 0) (E pre_unlock 2040 0 0), length-E post_lock 2040 0 0, length-E write8 off 0 0, length-E pre_unlock 2040 0 0) in
+    omega (arith, length-append (E post_lock 2040 0 0) (E write8 off 0 0 ++ E pre_unlock 2040 0 0), length-append (E write8 off 0 0) (E pre_unlock 2040 0 0), length-E post_lock 2040 0 0, length-E write8 off 0 0, length-E pre_unlock 2040 0 0) in
     either_short (nat_lt kind 4) _ _ (one read8 off 0 0)
-        (either_short (kind == 4) _ _ (one write8 off 0 0)
-            (either_short (kind == 5) _ _ (one atomic64_fetch_add (1024 + off) 1 4)
-                (either_short (kind == 6) _ _ (two func_entry off func_exit 0) three)))
+    (either_short (kind == 4) _ _ (one write8 off 0 0)
+    (either_short (kind == 5) _ _ (one atomic64_fetch_add (1024 + off) 1 4)
+    (either_short (kind == 6) _ _ (two func_entry off func_exit 0) three)))
 
 length-operation : (r q : ℕ) → length (operation r q) ≤ 27
 unfolding operation
@@ -82,15 +82,18 @@ pub length-thread : (x size : ℕ) → length (thread x size) ≤ 27 * size + 2
 unfolding thread T
 length-thread x size = omega (arith, length-append (operations x size) T, length-operations x size)
 
-pub length-main_of : (first second : List ℕ) → length (main_of first second) ≡ 14
+pub length-main_of : (second third : ℕ) → length (main_of second third) ≡ 14
 unfolding main_of N T
-length-main_of first second = refl
+length-main_of second third = refl
 
 pub length-code : (seed size : ℕ) → (14 ≤ length (code seed size)) × (length (code seed size) ≤ 20 + 81 * size)
 unfolding code
 length-code seed size =
-    let all = length-append (main_of (t1 seed size) (t2 seed size)) (t1 seed size ++ (t2 seed size ++ t3 seed size)) in
-    let most = length-append (t1 seed size) (t2 seed size ++ t3 seed size) in
-    let last = length-append (t2 seed size) (t3 seed size) in
-    let main = length-main_of (t1 seed size) (t2 seed size) in
+    let one = t1 seed size in
+    let two = t2 seed size in
+    let three = t3 seed size in
+    let all = length-append (main_of (length one) (length (one ++ two))) (one ++ two ++ three) in
+    let most = length-append (one ++ two) three in
+    let last = length-append one two in
+    let main = length-main_of (length one) (length (one ++ two)) in
     (omega (arith, all, main), omega (arith, all, most, last, main, length-thread))

@@ -1,3 +1,4 @@
 pub mod Decoding
 pub mod Lengths
 pub mod Accepting
+pub mod Making

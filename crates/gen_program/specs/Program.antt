@@ -42,13 +42,14 @@ t3 seed size = thread (after (start seed) (4 * size)) size
 abbrev pub address : ℕ → ℕ
 address words = 0x10000 + 4 * words
 
--- main, whose 14 words stand before the threads, which have these words
-unfoldable pub main_of : List ℕ → List ℕ → List ℕ
-main_of first second =
-    N (address 14) ++ (N (address (14 + length first)) ++ (N (address (14 + length first + length second)) ++ T))
+-- main, whose 14 words stand before the threads: so many of theirs stand before the second and before the third
+unfoldable pub main_of : ℕ → ℕ → List ℕ
+main_of second third = N (address 14) ++ (N (address (14 + second)) ++ (N (address (14 + third)) ++ T))
 
 unfoldable pub code : ℕ → ℕ → List ℕ
-code seed size = main_of (t1 seed size) (t2 seed size) ++ (t1 seed size ++ (t2 seed size ++ t3 seed size))
+code seed size =
+    main_of (length (t1 seed size)) (length (t1 seed size ++ t2 seed size))
+    ++ (t1 seed size ++ t2 seed size ++ t3 seed size)
 
 -- the file of a seed and a size
 unfoldable pub program : ℕ → ℕ → List ℕ

@@ -69,6 +69,21 @@ fn label(words: usize) -> u32
     CODE_ADDRESS + 4 * (MAIN_WORDS + words) as u32
 }
 
+/// The code of main, where so many words stand before the second and the third thread.
+#[tactic(auto, unfolding(crate::specs::Program::main_of))]
+fn main_code(alloc: Global, second: usize, third: usize) -> Result<Vec<u32>, AllocError>
+    requires second { second < 2 ^ 28 }
+    requires third { third < 2 ^ 28 }
+    ensures { IfOk result (λ code. code.items ≡ program.main_of second third) }
+{
+    let mut code = Vec::new(alloc);
+    create_thread(&mut code, label(0))?;
+    create_thread(&mut code, label(second))?;
+    create_thread(&mut code, label(third))?;
+    exit_thread(&mut code)?;
+    Ok(code)
+}
+
 /// The executable of a seed, with three threads of so many operations each. It has 810,020 words
 /// of code at most.
 pub fn make(alloc: Global, seed: u32, size: u32) -> Result<Vec<u8>, NoMemory>
@@ -78,13 +93,12 @@ pub fn make(alloc: Global, seed: u32, size: u32) -> Result<Vec<u8>, NoMemory>
 {
     let mut draws = Draws::new(seed);
     let mut threads = Vec::new(alloc);
-    let mut main = Vec::new(alloc);
-    create_thread(&mut main, label(threads.len()))?;
     thread(&mut threads, &mut draws, size)?;
-    create_thread(&mut main, label(threads.len()))?;
+    let second = threads.len();
     thread(&mut threads, &mut draws, size)?;
-    create_thread(&mut main, label(threads.len()))?;
+    let third = threads.len();
     thread(&mut threads, &mut draws, size)?;
-    exit_thread(&mut main)?;
-    Ok(executable(alloc, main.as_slice(), threads.as_slice())?)
+    let main = main_code(alloc, second, third)?;
+    let file = executable(alloc, main.as_slice(), threads.as_slice())?;
+    Ok(file)
 }

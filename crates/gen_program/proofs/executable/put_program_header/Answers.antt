@@ -15,4 +15,4 @@ both old words flags offset address file_size memory_size e =
 pub returns : goal.returns
 returns c =
     IfOk-equal c.put_longs.result _ _ _ c.put_longs.ensures
-        (both c.args.file.now.items c.put_words.new.file.items c.args.flags c.args.offset c.args.address c.args.sizes.0 c.args.sizes.1 c.in_ok-put_words.ensures)
+    (both c.args.file.now.items c.put_words.new.file.items c.args.flags c.args.offset c.args.address c.args.sizes.0 c.args.sizes.1 c.in_ok-put_words.ensures)
