@@ -6,7 +6,7 @@ use Rattle.std.proofs.lemmas.List.{append-nil}
 use Rattle.std.specs.List.{flat_map, range_with_len}
 use Rattle.std.proofs.lemmas.List.Concat.{flat_map-append}
 use Rattle.gen_program.specs.Draws.{after, next}
-use Rattle.gen_program.specs.Notation.{E, N, T, read8, write8, atomic64_fetch_add, func_entry, func_exit, post_lock, pre_unlock}
+use Rattle.gen_program.specs.Notation.{entry_call, create_thread, exit_thread, read8, write8, atomic64_fetch_add, func_entry, func_exit, post_lock, pre_unlock}
 use Rattle.gen_program.specs.Program.{at_offset, operation, operation_at, operations, thread, t1, t2, t3, main_of, code}
 
 -- ---- draws
@@ -53,16 +53,16 @@ either_short : (b : Bool) (xs ys : List ℕ) → length xs ≤ 27 → length ys 
 either_short true xs ys p q = p
 either_short false xs ys p q = q
 
-pub length-E : (number off v1 v2 : ℕ) → length (E number off v1 v2) ≡ 9
-unfolding E
-length-E number off v1 v2 = refl
+pub length-entry_call : (number off v1 v2 : ℕ) → length (entry_call number off v1 v2) ≡ 9
+unfolding entry_call
+length-entry_call number off v1 v2 = refl
 
 length-at_offset : (kind off : ℕ) → length (at_offset kind off) ≤ 27
 length-at_offset kind off =
-    let one : (number o v w : ℕ) → length (E number o v w) ≤ 27 = λ number o v w. omega (arith, length-E number o v w) in
-    let two : (number o m p : ℕ) → length (E number o 0 0 ++ E m p 0 0) ≤ 27 = λ number o m p. omega (arith, length-append (E number o 0 0) (E m p 0 0), length-E number o 0 0, length-E m p 0 0) in
-    let three : length (E post_lock 2040 0 0 ++ (E write8 off 0 0 ++ E pre_unlock 2040 0 0)) ≤ 27 =
-    omega (arith, length-append (E post_lock 2040 0 0) (E write8 off 0 0 ++ E pre_unlock 2040 0 0), length-append (E write8 off 0 0) (E pre_unlock 2040 0 0), length-E post_lock 2040 0 0, length-E write8 off 0 0, length-E pre_unlock 2040 0 0) in
+    let one : (number o v w : ℕ) → length (entry_call number o v w) ≤ 27 = λ number o v w. omega (arith, length-entry_call number o v w) in
+    let two : (number o m p : ℕ) → length (entry_call number o 0 0 ++ entry_call m p 0 0) ≤ 27 = λ number o m p. omega (arith, length-append (entry_call number o 0 0) (entry_call m p 0 0), length-entry_call number o 0 0, length-entry_call m p 0 0) in
+    let three : length (entry_call post_lock 2040 0 0 ++ (entry_call write8 off 0 0 ++ entry_call pre_unlock 2040 0 0)) ≤ 27 =
+    omega (arith, length-append (entry_call post_lock 2040 0 0) (entry_call write8 off 0 0 ++ entry_call pre_unlock 2040 0 0), length-append (entry_call write8 off 0 0) (entry_call pre_unlock 2040 0 0), length-entry_call post_lock 2040 0 0, length-entry_call write8 off 0 0, length-entry_call pre_unlock 2040 0 0) in
     either_short (nat_lt kind 4) _ _ (one read8 off 0 0)
     (either_short (kind == 4) _ _ (one write8 off 0 0)
     (either_short (kind == 5) _ _ (one atomic64_fetch_add (1024 + off) 1 4)
@@ -79,11 +79,11 @@ length-operations x (suc n) =
     omega (arith, ap length more, length-append (operations x n) (operation_at x n), length-operations x n, length-operation (after x (2 * n + 1) / 65536) (after x (2 * n + 1 + 1) / 65536))
 
 pub length-thread : (x size : ℕ) → length (thread x size) ≤ 27 * size + 2
-unfolding thread T
-length-thread x size = omega (arith, length-append (operations x size) T, length-operations x size)
+unfolding thread exit_thread
+length-thread x size = omega (arith, length-append (operations x size) exit_thread, length-operations x size)
 
 pub length-main_of : (second third : ℕ) → length (main_of second third) ≡ 14
-unfolding main_of N T
+unfolding main_of create_thread exit_thread
 length-main_of second third = refl
 
 pub length-code : (seed size : ℕ) → (14 ≤ length (code seed size)) × (length (code seed size) ≤ 20 + 81 * size)

@@ -44,14 +44,14 @@ code_is {seed} {size} {x0} {x1} {x2} {v0} {v1} {v2} {v3} made main main_is =
     let at_second : x1 ≡ after (start seed) (2 * size) = made.second ∙ ap (λ x. after x (2 * size)) made.seeded in
     let twice : 2 * size + 2 * size ≡ 4 * size = omega arith in
     let at_third : x2 ≡ after (start seed) (4 * size) =
-        made.third ∙ ap (λ x. after x (2 * size)) at_second ∙ after-after (start seed) (2 * size) (2 * size) ∙ ap (after (start seed)) twice in
+    made.third ∙ ap (λ x. after x (2 * size)) at_second ∙ after-after (start seed) (2 * size) (2 * size) ∙ ap (after (start seed)) twice in
     let one : v1 ≡ t1 seed size = made.one ∙ ap (λ (ws : List ℕ). ws ++ thread x0 size) made.none ∙ ap (λ x. thread x size) made.seeded in
     let two : v2 ≡ t1 seed size ++ t2 seed size =
-        made.two ∙ ap (λ (ws : List ℕ). ws ++ thread x1 size) one ∙ ap (λ x. t1 seed size ++ thread x size) at_second in
+    made.two ∙ ap (λ (ws : List ℕ). ws ++ thread x1 size) one ∙ ap (λ x. t1 seed size ++ thread x size) at_second in
     let three : v3 ≡ t1 seed size ++ t2 seed size ++ t3 seed size =
-        made.three ∙ ap (λ (ws : List ℕ). ws ++ thread x2 size) two ∙ ap (λ x. t1 seed size ++ t2 seed size ++ thread x size) at_third in
+    made.three ∙ ap (λ (ws : List ℕ). ws ++ thread x2 size) two ∙ ap (λ x. t1 seed size ++ t2 seed size ++ thread x size) at_third in
     let first : main ≡ main_of (length (t1 seed size)) (length (t1 seed size ++ t2 seed size)) =
-        main_is ∙ ap (λ n. main_of n (length v2)) (ap length one) ∙ ap (main_of (length (t1 seed size))) (ap length two) in
+    main_is ∙ ap (λ n. main_of n (length v2)) (ap length one) ∙ ap (main_of (length (t1 seed size))) (ap length two) in
     ap (λ (ws : List ℕ). ws ++ v3) first ∙ ap (λ (ws : List ℕ). main_of (length (t1 seed size)) (length (t1 seed size ++ t2 seed size)) ++ ws) three
 
 -- ---- the file

@@ -36,8 +36,8 @@ service number = addi 17 0 number ∷ ecall ∷ []
 
 -- `E(name, off, v1, v2)`: the call of an entry function with the address 0x1000000 + off, which x10 has, and with further
 -- arguments in x11 and x12. The `jal` is the instruction that seems to call it
-unfoldable pub E : ℕ → ℕ → ℕ → ℕ → List ℕ
-E number off v1 v2 =
+unfoldable pub entry_call : ℕ → ℕ → ℕ → ℕ → List ℕ
+entry_call number off v1 v2 =
     lui 10 0x1000 ∷
     addi 10 10 off ∷
     addi 11 0 v1 ∷
@@ -48,9 +48,9 @@ E number off v1 v2 =
     service number
 
 -- `N(label)`: makes a thread that begins at the label's address
-unfoldable pub N : ℕ → List ℕ
-N address = lui 10 (high address) ∷ addi 10 10 (low address) ∷ service thread_create
+unfoldable pub create_thread : ℕ → List ℕ
+create_thread address = lui 10 (high address) ∷ addi 10 10 (low address) ∷ service thread_create
 
 -- `T`: ends the thread
-unfoldable pub T : List ℕ
-T = service thread_exit
+unfoldable pub exit_thread : List ℕ
+exit_thread = service thread_exit

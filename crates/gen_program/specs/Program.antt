@@ -2,17 +2,17 @@
 use Rattle.std.specs.Prelude.{ℕ, ◌+◌, ◌*◌, ◌%◌, ◌==◌, nat_lt, if◌then◌else◌, List, ◌++◌, length}
 use Rattle.std.specs.List.{flat_map, range_with_len}
 use Rattle.gen_program.specs.Draws.{start, after, draw}
-use Rattle.gen_program.specs.Notation.{E, N, T, read8, write8, atomic64_fetch_add, func_entry, func_exit, post_lock, pre_unlock}
+use Rattle.gen_program.specs.Notation.{entry_call, create_thread, exit_thread, read8, write8, atomic64_fetch_add, func_entry, func_exit, post_lock, pre_unlock}
 use Rattle.gen_program.specs.Executable.{executable}
 
 -- the operation of two draws: the first chooses what is done, and the second where in the data
 abbrev pub at_offset : ℕ → ℕ → List ℕ
 at_offset kind off =
-    if nat_lt kind 4 then E read8 off 0 0
-    else if kind == 4 then E write8 off 0 0
-    else if kind == 5 then E atomic64_fetch_add (1024 + off) 1 4
-    else if kind == 6 then E func_entry off 0 0 ++ E func_exit 0 0 0
-    else E post_lock 2040 0 0 ++ (E write8 off 0 0 ++ E pre_unlock 2040 0 0)
+    if nat_lt kind 4 then entry_call read8 off 0 0
+    else if kind == 4 then entry_call write8 off 0 0
+    else if kind == 5 then entry_call atomic64_fetch_add (1024 + off) 1 4
+    else if kind == 6 then entry_call func_entry off 0 0 ++ entry_call func_exit 0 0 0
+    else entry_call post_lock 2040 0 0 ++ (entry_call write8 off 0 0 ++ entry_call pre_unlock 2040 0 0)
 
 unfoldable pub operation : ℕ → ℕ → List ℕ
 operation r q = at_offset (r % 8) (8 * (q % 64))
@@ -26,7 +26,7 @@ unfoldable pub operations : ℕ → ℕ → List ℕ
 operations x count = flat_map (operation_at x) (range_with_len 0 count)
 
 unfoldable pub thread : ℕ → ℕ → List ℕ
-thread x size = operations x size ++ T
+thread x size = operations x size ++ exit_thread
 
 -- the three threads: each goes on with the draws where the one before it ended
 abbrev pub t1 : ℕ → ℕ → List ℕ
@@ -44,7 +44,7 @@ address words = 0x10000 + 4 * words
 
 -- main, whose 14 words stand before the threads: so many of theirs stand before the second and before the third
 unfoldable pub main_of : ℕ → ℕ → List ℕ
-main_of second third = N (address 14) ++ (N (address (14 + second)) ++ (N (address (14 + third)) ++ T))
+main_of second third = create_thread (address 14) ++ (create_thread (address (14 + second)) ++ (create_thread (address (14 + third)) ++ exit_thread))
 
 unfoldable pub code : ℕ → ℕ → List ℕ
 code seed size =

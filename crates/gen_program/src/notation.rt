@@ -26,7 +26,7 @@ pub const ATOMIC64_FETCH_ADD: u32 = 115;
 
 /// The call of an entry function on an address of the data, given as its offset, with up to two
 /// further arguments.
-#[tactic(auto, unfolding(crate::specs::Notation::E, crate::specs::Words::jal_next, crate::specs::Words::ecall))]
+#[tactic(auto, unfolding(crate::specs::Notation::entry_call, crate::specs::Words::jal_next, crate::specs::Words::ecall))]
 pub fn entry_call(
     code: &mut Vec<u32>,
     number: u32,
@@ -37,7 +37,7 @@ pub fn entry_call(
     requires offset { offset < 2 ^ 12 }
     requires first { values.0 < 2 ^ 12 }
     requires second { values.1 < 2 ^ 12 }
-    ensures { OnOk result (code.new.items ≡ code.old.items ++ notation.E number offset values.0 values.1) }
+    ensures { OnOk result (code.new.items ≡ code.old.items ++ notation.entry_call number offset values.0 values.1) }
 {
     let words = [
         lui(10, 0x1000),
@@ -54,10 +54,10 @@ pub fn entry_call(
 }
 
 /// Makes a thread that begins at the address.
-#[tactic(auto, unfolding(crate::specs::Notation::N, crate::specs::Words::ecall))]
+#[tactic(auto, unfolding(crate::specs::Notation::create_thread, crate::specs::Words::ecall))]
 pub fn create_thread(code: &mut Vec<u32>, address: u32) -> Result<(), AllocError>
     requires { address < 2 ^ 31 }
-    ensures { OnOk result (code.new.items ≡ code.old.items ++ notation.N address) }
+    ensures { OnOk result (code.new.items ≡ code.old.items ++ notation.create_thread address) }
 {
     let words = [
         lui(10, (address + 0x800) / 0x1000),
@@ -69,9 +69,9 @@ pub fn create_thread(code: &mut Vec<u32>, address: u32) -> Result<(), AllocError
 }
 
 /// Ends the thread.
-#[tactic(auto, unfolding(crate::specs::Notation::T, crate::specs::Words::ecall))]
+#[tactic(auto, unfolding(crate::specs::Notation::exit_thread, crate::specs::Words::ecall))]
 pub fn exit_thread(code: &mut Vec<u32>) -> Result<(), AllocError>
-    ensures { OnOk result (code.new.items ≡ code.old.items ++ notation.T) }
+    ensures { OnOk result (code.new.items ≡ code.old.items ++ notation.exit_thread) }
 {
     code.extend_from_slice(&[addi(17, 0, THREAD_EXIT), ECALL])
 }

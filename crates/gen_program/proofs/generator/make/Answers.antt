@@ -36,28 +36,28 @@ made c =
     let second : c.len-second.result ≡ length c.thread.new.code.items = c.len-second.ensures ∙ c.thread.new.code.ok.0 in
     let third : c.len-third.result ≡ length c.thread-2.new.code.items = c.len-third.ensures ∙ c.thread-2.new.code.ok.0 in
     let main : c.as_slice.result.now ≡ main_of (length c.thread.new.code.items) (length c.thread-2.new.code.items) =
-        c.as_slice.ensures.value
-        ∙ c.in_ok-main.ensures
-        ∙ ap (λ n. main_of n c.len-third.result) second
-        ∙ ap (main_of (length c.thread.new.code.items)) third in
+    c.as_slice.ensures.value
+    ∙ c.in_ok-main.ensures
+    ∙ ap (λ n. main_of n c.len-third.result) second
+    ∙ ap (main_of (length c.thread.new.code.items)) third in
     let threads : Threads
-        c.args.seed
-        c.args.size
-        c.new-draws.result.state
-        c.thread.new.draws.state
-        c.thread-2.new.draws.state
-        c.new-threads.result.items
-        c.thread.new.code.items
-        c.thread-2.new.code.items
-        c.as_slice-2.result.now = record {
-        seeded = c.new-draws.ensures;
-        second = c.in_ok-thread.ensures.draws;
-        third = c.in_ok-thread-2.ensures.draws;
-        none = c.new-threads.ensures.items;
-        one = c.in_ok-thread.ensures.code;
-        two = c.in_ok-thread-2.ensures.code;
-        three = c.as_slice-2.ensures.value ∙ c.in_ok-thread-3.ensures.code;
-      } in
+    c.args.seed
+    c.args.size
+    c.new-draws.result.state
+    c.thread.new.draws.state
+    c.thread-2.new.draws.state
+    c.new-threads.result.items
+    c.thread.new.code.items
+    c.thread-2.new.code.items
+    c.as_slice-2.result.now = record {
+      seeded = c.new-draws.ensures;
+      second = c.in_ok-thread.ensures.draws;
+      third = c.in_ok-thread-2.ensures.draws;
+      none = c.new-threads.ensures.items;
+      one = c.in_ok-thread.ensures.code;
+      two = c.in_ok-thread-2.ensures.code;
+      three = c.as_slice-2.ensures.value ∙ c.in_ok-thread-3.ensures.code;
+    } in
     c.in_ok-file.ensures ∙ ap executable (code_is threads c.as_slice.result.now main)
 
 pub returns-clause-bytes : goal.returns-clause-bytes
