@@ -1,5 +1,5 @@
 -- The loader finds no fault in an executable of this form.
-use Rattle.std.proofs.Common.{◌≡◌, ℕ, ◌+◌, ◌-◌, ◌*◌, ◌/◌, ◌^◌, ◌<◌, ◌≤◌, List, [], ◌∷◌, ◌++◌, length, arith, refl, sym, ap, ◌∙◌, length-append, true, false}
+use Rattle.std.proofs.Common.{◌≡◌, ℕ, ◌+◌, ◌-◌, ◌*◌, ◌/◌, ◌^◌, ◌<◌, ◌≤◌, List, [], ◌∷◌, ◌++◌, length, arith, refl, ap, ◌∙◌, length-append, true, false}
 use Rattle.std.specs.Prelude.{nat_lt, nat_le, slice_index, None, Ok}
 use Rattle.std.specs.Int.{to_le_bytes, w64}
 use Rattle.std.proofs.lemmas.Bool.{le-ltb, lt-ltb, le-leb}
@@ -8,7 +8,7 @@ use Rattle.elf_image.specs.declared.header.ProgramHeader.{ProgramHeader}
 use Rattle.elf_image.specs.Bytes.{u16_at, u32_at, u64_at}
 use Rattle.elf_image.specs.Headers.{header_at, takes_memory, region}
 use Rattle.elf_image.specs.File.{image_of, header_fault, has_bad_table, segment_fault, memory_fault, segments, segments_of, regions_of, header_count, table_offset, entry}
-use Rattle.gen_program.specs.Executable.{headers, elf_header, program_header, code_header, data_header, executable}
+use Rattle.gen_program.specs.Executable.{headers, elf_header, program_header}
 
 -- the segments of the code, of so many bytes, and of the data
 abbrev code_segment : ℕ → ProgramHeader

@@ -1,11 +1,10 @@
 -- The fields of the words, and so the rows of the instruction table that match them.
-use Rattle.std.proofs.Common.{◌≡◌, ℕ, ◌+◌, ◌*◌, ◌/◌, ◌%◌, ◌^◌, ◌<◌, true, arith, refl, ap, ◌∙◌, sym}
+use Rattle.std.proofs.Common.{◌≡◌, ℕ, ◌+◌, ◌*◌, ◌^◌, ◌<◌, true, arith, refl}
 use Rattle.std.specs.Prelude.{Some, [], ◌∷◌}
-use Rattle.rv_decode.specs.declared.instr.Instr.{Instr}
 use Rattle.rv_decode.specs.declared.instr.Op.TheVariants.{Lui, Addi}
-use Rattle.rv_decode.specs.Fields.{bits, opcode, rd, rs1, imm_i, imm_u, signed, fields, u_form, i_form}
-use Rattle.rv_decode.specs.Table.{instr_of, table, row, funct3, matches, made_by, Row}
-use Rattle.rv_decode.proofs.Rows.{matches_found, table_apart, Makes}
+use Rattle.rv_decode.specs.Fields.{bits, opcode, rd, rs1, signed, u_form, i_form}
+use Rattle.rv_decode.specs.Table.{instr_of, table, row, funct3, matches, made_by}
+use Rattle.rv_decode.proofs.Rows.{matches_found, table_apart}
 use Rattle.gen_program.specs.Words.{lui, addi}
 
 -- ---- lui

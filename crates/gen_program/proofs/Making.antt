@@ -1,12 +1,12 @@
 -- One more operation, main with its threads, and the file of a seed, which the loader accepts.
-use Rattle.std.proofs.Common.{◌≡◌, ℕ, ◌+◌, ◌*◌, ◌/◌, ◌<◌, ◌≤◌, List, [], ◌∷◌, ◌++◌, length, arith, refl, sym, ap, ◌∙◌, length-append}
+use Rattle.std.proofs.Common.{◌≡◌, ℕ, ◌+◌, ◌*◌, ◌/◌, ◌≤◌, List, [], ◌∷◌, ◌++◌, length, arith, refl, sym, ap, ◌∙◌, length-append}
 use Rattle.std.specs.Prelude.{Ok}
 use Rattle.std.specs.List.{flat_map}
 use Rattle.std.proofs.lemmas.List.{append_assoc}
 use Rattle.elf_image.specs.File.{image_of}
 use Rattle.gen_program.specs.Draws.{start, after, next, draw}
 use Rattle.gen_program.specs.Program.{operation, operation_at, operations, thread, t1, t2, t3, main_of, code, program}
-use Rattle.gen_program.specs.Executable.{word, executable, headers}
+use Rattle.gen_program.specs.Executable.{word, executable}
 use Rattle.gen_program.proofs.Lengths.{after-suc, after-after, operations_more, length-thread, length-code}
 use Rattle.gen_program.proofs.Accepting.{image_of-headers}
 

@@ -1,5 +1,5 @@
 -- Short programs for one call each.
-use Rattle.std.specs.Prelude.{ℕ, List, [], ◌∷◌, ◌++◌}
+use Rattle.std.specs.Prelude.{ℕ, List, [], ◌∷◌}
 use Rattle.gen_program.specs.Words.{lui, addi, jal_next, ecall, high, low}
 
 -- the numbers of calls

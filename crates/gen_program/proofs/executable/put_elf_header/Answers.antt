@@ -1,5 +1,3 @@
-use Rattle.gen_program.proofs.Accepting.{image_of-headers}
-use Rattle.gen_program.proofs.Lengths.{length-code}
 use Rattle.std.proofs.Common.{rules}
 use Rattle.std.proofs.lemmas.Result.{IfOk-equal}
 use Rattle.std.proofs.lemmas.List.{append_assoc}

@@ -1,7 +1,7 @@
-use Rattle.std.proofs.Common.{◌≡◌, ◌+◌, ◌*◌, ◌≤◌, ℕ, List, ◌++◌, length, arith, ap, sym, ◌∙◌, subst}
+use Rattle.std.proofs.Common.{◌≡◌, ℕ, List, length, arith, ap, sym, ◌∙◌, subst}
 use Rattle.std.specs.Prelude.{Ok}
 use Rattle.elf_image.specs.File.{image_of}
-use Rattle.gen_program.specs.Program.{program, code, main_of}
+use Rattle.gen_program.specs.Program.{program, main_of}
 use Rattle.gen_program.specs.Executable.{executable}
 use Rattle.gen_program.proofs.Lengths.{length-main_of}
 use Rattle.gen_program.proofs.Making.{longer, Threads, code_is, program_loads}
