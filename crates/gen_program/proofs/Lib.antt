@@ -2,3 +2,4 @@ pub mod Decoding
 pub mod Lengths
 pub mod Accepting
 pub mod Making
+pub mod Instructions

@@ -1,8 +1,9 @@
 // What the words of the code are.
-ghost use Rattle.std.specs.Prelude.{◌≡◌, ℕ, ◌<◌, ◌^◌, ◌*◌, Some, pos, ◌+ℤ◌};
+ghost use Rattle.std.specs.Prelude.{◌≡◌, ℕ, ◌<◌, ◌≤◌, ◌^◌, ◌*◌, Some, All, IsSome, pos, ◌+ℤ◌};
 ghost use Rattle.rv_decode.specs.declared.instr.Op.TheVariants.{Lui, Addi, Jal, Ecall};
 ghost use Rattle.rv_decode.specs.Fields.{signed, bare};
 ghost use Rattle.rv_decode.specs.Table.{instr_of};
+ghost use Rattle.gen_program.specs.Program.{code};
 ghost use Rattle.gen_program.specs.Words.{lui, addi, jal_next, ecall, high, low};
 
 /// Each word is the instruction that it is named for.
@@ -16,4 +17,9 @@ pub fn word_law()
 /// A `lui` and an `addi` with the two parts of an address give the address.
 pub fn address_law()
     ensures { (address : ℕ) → address < 0x7ffff800 → signed 32 (high address * 2 ^ 12) +ℤ signed 12 (low address) ≡ pos address }
+{}
+
+/// Code has no word that isn't an instruction.
+pub fn code_law()
+    ensures { (seed size : ℕ) → size ≤ 10000 → All (λ w. IsSome (instr_of w)) (code seed size) }
 {}

@@ -16,4 +16,4 @@ mod notation;
 mod tests;
 
 pub use generator::make;
-pub use laws::{address_law, word_law};
+pub use laws::{address_law, code_law, word_law};
