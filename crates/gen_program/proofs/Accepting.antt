@@ -11,10 +11,10 @@ use Rattle.elf_image.specs.File.{image_of, header_fault, has_bad_table, segment_
 use Rattle.gen_program.specs.Executable.{headers, elf_header, program_header}
 
 -- the segments of the code, of so many bytes, and of the data
-abbrev code_segment : ℕ → ProgramHeader
+abbrev pub code_segment : ℕ → ProgramHeader
 code_segment s = record { kind = 1; flags = 5; offset = 176; address = 0x10000; file_size = s; memory_size = s }
 
-abbrev data_segment : ℕ → ProgramHeader
+abbrev pub data_segment : ℕ → ProgramHeader
 data_segment s = record { kind = 1; flags = 6; offset = 176 + s; address = 0x1000000; file_size = 0; memory_size = 2048 }
 
 -- ---- what the loader tests, for any file
@@ -59,7 +59,7 @@ image_passes file one two three = rw (one, two, three) refl
 u64_at-long : (s : ℕ) → s < 2 ^ 64 → u64_at (to_le_bytes w64 s) 0 ≡ s
 u64_at-long s fits = omega (arith, from_le_bytes-to_le_bytes_8 s fits)
 
-length-headers : (s : ℕ) → length (headers s) ≡ 176
+pub length-headers : (s : ℕ) → length (headers s) ≡ 176
 unfolding headers elf_header program_header
 length-headers s = refl
 
@@ -75,7 +75,7 @@ headers_pass : (s : ℕ) (rest : List ℕ) → 176 ≤ length (headers s ++ rest
 unfolding headers elf_header program_header
 headers_pass s rest long = header_passes (headers s ++ rest) long refl refl refl refl refl refl refl refl refl
 
-are_segments : (s : ℕ) (rest : List ℕ) → 4 ≤ s → s ≤ 4000000 → segments (headers s ++ rest) ≡ code_segment s ∷ data_segment s ∷ []
+pub are_segments : (s : ℕ) (rest : List ℕ) → 4 ≤ s → s ≤ 4000000 → segments (headers s ++ rest) ≡ code_segment s ∷ data_segment s ∷ []
 unfolding headers elf_header program_header
 are_segments s rest some small =
     let takes : nat_lt 0 s ≡ true = lt-ltb _ _ (omega arith) in

@@ -9,8 +9,9 @@ use Rattle.gen_program.specs.Program.{address, at_offset, operation, operation_a
 use Rattle.gen_program.proofs.Decoding.{instr_of-lui, instr_of-addi}
 use Rattle.gen_program.proofs.Lengths.{operations_none, operations_more, length-thread}
 
-abbrev pub IsWord : ℕ → Type 0
-IsWord w = IsSome (instr_of w)
+pub record IsWord (w : ℕ) : Type 0 where
+  pub instruction : IsSome (instr_of w)
+  pub fits : w < 2 ^ 32
 
 record AreWords (ws : List ℕ) : Type 0 where
   each : All IsWord ws
@@ -30,18 +31,20 @@ same {vs} {ws} e words = record { each = All-same IsWord vs ws e words.each }
 -- ---- words
 
 lui_is_word : (d u : ℕ) → d < 32 → u < 2 ^ 20 → IsWord (lui d u)
-lui_is_word d u small fits = ap is_some (instr_of-lui d u small fits)
+unfolding lui
+lui_is_word d u small fits = record { instruction = ap is_some (instr_of-lui d u small fits); fits = omega arith }
 
 addi_is_word : (d s v : ℕ) → d < 32 → s < 32 → v < 2 ^ 12 → IsWord (addi d s v)
-addi_is_word d s v small low fits = ap is_some (instr_of-addi d s v small low fits)
+unfolding addi
+addi_is_word d s v small low fits = record { instruction = ap is_some (instr_of-addi d s v small low fits); fits = omega arith }
 
 jal_next_is_word : IsWord jal_next
 unfolding instr_of jal_next
-jal_next_is_word = refl
+jal_next_is_word = record { instruction = refl; fits = omega arith }
 
 ecall_is_word : IsWord ecall
 unfolding instr_of ecall
-ecall_is_word = refl
+ecall_is_word = record { instruction = refl; fits = omega arith }
 
 -- ---- calls
 

@@ -5,6 +5,7 @@ use Rattle.std.specs.Prelude.{nat_lt, ◌==◌}
 use Rattle.std.proofs.lemmas.List.{append-nil}
 use Rattle.std.specs.List.{flat_map, range_with_len}
 use Rattle.std.proofs.lemmas.List.Concat.{flat_map-append}
+use Rattle.gen_program.specs.Executable.{word}
 use Rattle.gen_program.specs.Draws.{after, next}
 use Rattle.gen_program.specs.Notation.{entry_call, create_thread, exit_thread, read8, write8, atomic64_fetch_add, func_entry, func_exit, post_lock, pre_unlock}
 use Rattle.gen_program.specs.Program.{at_offset, operation, operation_at, operations, thread, t1, t2, t3, main_of, code}
@@ -97,3 +98,9 @@ length-code seed size =
     let last = length-append one two in
     let main = length-main_of (length one) (length (one ++ two)) in
     (omega (arith, all, main), omega (arith, all, most, last, main, length-thread))
+
+-- ---- bytes
+
+pub length-words : (words : List ℕ) → length (flat_map word words) ≡ 4 * length words
+length-words [] = refl
+length-words (w ∷ ws) = omega (arith, length-append (word w) (flat_map word ws), length-words ws)

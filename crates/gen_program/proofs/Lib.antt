@@ -3,3 +3,4 @@ pub mod Lengths
 pub mod Accepting
 pub mod Making
 pub mod Instructions
+pub mod Fetching

@@ -1,5 +1,5 @@
 -- One more operation, main with its threads, and the file of a seed, which the loader accepts.
-use Rattle.std.proofs.Common.{◌≡◌, ℕ, ◌+◌, ◌*◌, ◌/◌, ◌≤◌, List, [], ◌∷◌, ◌++◌, length, arith, refl, sym, ap, ◌∙◌, length-append}
+use Rattle.std.proofs.Common.{◌≡◌, ℕ, ◌+◌, ◌*◌, ◌/◌, ◌≤◌, List, [], ◌++◌, length, arith, sym, ap, ◌∙◌, length-append}
 use Rattle.std.specs.Prelude.{Ok}
 use Rattle.std.specs.List.{flat_map}
 use Rattle.std.proofs.lemmas.List.{append_assoc}
@@ -7,7 +7,7 @@ use Rattle.elf_image.specs.File.{image_of}
 use Rattle.gen_program.specs.Draws.{start, after, next, draw}
 use Rattle.gen_program.specs.Program.{operation, operation_at, operations, thread, t1, t2, t3, main_of, code, program}
 use Rattle.gen_program.specs.Executable.{word, executable}
-use Rattle.gen_program.proofs.Lengths.{after-suc, after-after, operations_more, length-thread, length-code}
+use Rattle.gen_program.proofs.Lengths.{after-suc, after-after, operations_more, length-thread, length-code, length-words}
 use Rattle.gen_program.proofs.Accepting.{image_of-headers}
 
 pub one_more :
@@ -55,10 +55,6 @@ code_is {seed} {size} {x0} {x1} {x2} {v0} {v1} {v2} {v3} made main main_is =
     ap (λ (ws : List ℕ). ws ++ v3) first ∙ ap (λ (ws : List ℕ). main_of (length (t1 seed size)) (length (t1 seed size ++ t2 seed size)) ++ ws) three
 
 -- ---- the file
-
-length-words : (words : List ℕ) → length (flat_map word words) ≡ 4 * length words
-length-words [] = refl
-length-words (w ∷ ws) = omega (arith, length-append (word w) (flat_map word ws), length-words ws)
 
 pub program_loads : (seed size : ℕ) → size ≤ 10000 → image_of (program seed size) ≡ Ok (program seed size)
 unfolding program executable

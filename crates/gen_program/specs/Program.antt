@@ -5,7 +5,8 @@ use Rattle.gen_program.specs.Draws.{start, after, draw}
 use Rattle.gen_program.specs.Notation.{entry_call, create_thread, exit_thread, read8, write8, atomic64_fetch_add, func_entry, func_exit, post_lock, pre_unlock}
 use Rattle.gen_program.specs.Executable.{executable}
 
--- the operation of two draws: the first chooses what is done, and the second where in the data
+-- what is done at an offset of the data: reads, a write, an addition of order acq_rel, a function that is entered and left,
+-- and a write under the mutex at offset 2040
 abbrev pub at_offset : ℕ → ℕ → List ℕ
 at_offset kind off =
     if nat_lt kind 4 then entry_call read8 off 0 0
@@ -14,6 +15,7 @@ at_offset kind off =
     else if kind == 6 then entry_call func_entry off 0 0 ++ entry_call func_exit 0 0 0
     else entry_call post_lock 2040 0 0 ++ (entry_call write8 off 0 0 ++ entry_call pre_unlock 2040 0 0)
 
+-- the operation of two draws: the first chooses what is done, and the second where
 unfoldable pub operation : ℕ → ℕ → List ℕ
 operation r q = at_offset (r % 8) (8 * (q % 64))
 
@@ -21,7 +23,7 @@ operation r q = at_offset (r % 8) (8 * (q % 64))
 abbrev pub operation_at : ℕ → ℕ → List ℕ
 operation_at x k = operation (draw x (2 * k)) (draw x (2 * k + 1))
 
--- a thread of so many operations
+-- so many operations, and the thread that does them and then ends
 unfoldable pub operations : ℕ → ℕ → List ℕ
 operations x count = flat_map (operation_at x) (range_with_len 0 count)
 

@@ -1,9 +1,10 @@
 // What the words of the code are.
-ghost use Rattle.std.specs.Prelude.{◌≡◌, ℕ, ◌<◌, ◌≤◌, ◌^◌, ◌*◌, Some, All, IsSome, pos, ◌+ℤ◌};
+ghost use Rattle.std.specs.Prelude.{◌≡◌, ℕ, ◌<◌, ◌≤◌, ◌^◌, ◌*◌, Some, All, IsSome, length, slice_index, pos, ◌+ℤ◌};
+ghost use Rattle.elf_image.specs.File.{word_at};
 ghost use Rattle.rv_decode.specs.declared.instr.Op.TheVariants.{Lui, Addi, Jal, Ecall};
 ghost use Rattle.rv_decode.specs.Fields.{signed, bare};
 ghost use Rattle.rv_decode.specs.Table.{instr_of};
-ghost use Rattle.gen_program.specs.Program.{code};
+ghost use Rattle.gen_program.specs.Program.{address, code, program};
 ghost use Rattle.gen_program.specs.Words.{lui, addi, jal_next, ecall, high, low};
 
 /// Each word is the instruction that it is named for.
@@ -22,4 +23,9 @@ pub fn address_law()
 /// Code has no word that isn't an instruction.
 pub fn code_law()
     ensures { (seed size : ℕ) → size ≤ 10000 → All (λ w. IsSome (instr_of w)) (code seed size) }
+{}
+
+/// The words of the code are fetched one after another, each at its address.
+pub fn fetch_law()
+    ensures { (seed size k : ℕ) → size ≤ 10000 → k < length (code seed size) → word_at (program seed size) (address k) ≡ Some (slice_index (code seed size) k) }
 {}

@@ -1,9 +1,10 @@
 //! Programs made from a number, to try the tool on: three threads that each do so many operations
 //! on shared data, which a random number generator chooses.
 //!
-//! It stands on the definitions of `elf_image` and `rv_decode`, and calls neither. The layer above
-//! uses the clauses of `make`: the bytes are exactly those of `specs/Program.antt`, and the loader
-//! accepts them. `laws.rt` says that each word of the code is the instruction that it is named for.
+//! It stands on the definitions of `elf_image` and `rv_decode`, and calls neither; `run_record` has
+//! its error. The layer above uses the clauses of `make`: the bytes are exactly those of
+//! `specs/Program.antt`, and the loader accepts them. `laws.rt` says that each word is the
+//! instruction that it is named for, and that the words are fetched from the file one after another.
 #![tactic(auto)]
 
 mod draws;
@@ -16,4 +17,4 @@ mod notation;
 mod tests;
 
 pub use generator::make;
-pub use laws::{address_law, code_law, word_law};
+pub use laws::{address_law, code_law, fetch_law, word_law};

@@ -27,7 +27,7 @@ executable-requires c =
     let one = longer _ _ _ _ c.in_ok-thread.ensures.code in
     let two = longer _ _ _ _ c.in_ok-thread-2.ensures.code in
     let three = longer _ _ _ _ c.in_ok-thread-3.ensures.code in
-    let main : length c.in_ok-main.main.items ≡ 14 = ap length c.in_ok-main.ensures ∙ length-main_of c.len-second.result c.len-third.result in
+    let main : length c.in_ok-main.main.items ≡ 14 = ap length c.in_ok-main.ensures ∙ length-main_of _ _ in
     omega (arith, none, one, two, three, main, ap length c.as_slice.ensures.value, ap length c.as_slice-2.ensures.value)
 
 made : (c : After-drop-threads-2) → c.in_ok-file.file.items ≡ program c.args.seed c.args.size
