@@ -1,0 +1,9 @@
+use Rattle.std.proofs.Common.{rules}
+use Rattle.std.proofs.lemmas.Result.{IfOk-equal}
+use Rattle.std.proofs.lemmas.List.{append_assoc}
+use Rattle.gen_program.specs.Executable.{elf_header}
+use Rattle.gen_program.proofs.executable.put_elf_header.Goals as goal
+
+pub returns : goal.returns
+unfolding elf_header
+returns c = search (rules, IfOk-equal, append_assoc)

@@ -1,0 +1,5 @@
+pub mod Draws
+pub mod Words
+pub mod Notation
+pub mod Program
+pub mod Executable
