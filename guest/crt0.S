@@ -33,7 +33,9 @@ _start:
     addi    s0, s0, 8
     jalr    t0
     j       3b
-4:  call    main
+4:  addi    a0, zero, 0             # no arguments
+    addi    a1, zero, 0
+    call    main
     addi    a7, zero, 2             # exit, with what main returned
     ecall
     .size   _start, . - _start

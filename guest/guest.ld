@@ -2,7 +2,8 @@
    itself gives the main thread's stack, 0x7FFF0000 to 0x80000000.
 
    `__global_pointer$` isn't defined, so that no linker makes accesses relative to x3: it is 0 in
-   each thread. Debug sections other than line tables are dropped, since nothing reads them. */
+   each thread. Debug sections other than line tables are dropped, since nothing reads them, and so are
+   destructors, since nothing calls them. */
 OUTPUT_ARCH(riscv)
 ENTRY(_start)
 
@@ -31,12 +32,16 @@ SECTIONS
     .tbss : { *(.tbss .tbss.*) } :code :tls
     __tls_image = ADDR(.tdata);
     __tls_image_size = SIZEOF(.tdata);
-    __tls_size = SIZEOF(.tbss) == 0 ? SIZEOF(.tdata) : ADDR(.tbss) + SIZEOF(.tbss) - ADDR(.tdata);
+    __tls_size = SIZEOF(.tdata) == 0 ? SIZEOF(.tbss)
+        : SIZEOF(.tbss) == 0 ? SIZEOF(.tdata)
+        : ADDR(.tbss) + SIZEOF(.tbss) - ADDR(.tdata);
+    ASSERT(ALIGNOF(.tdata) <= 64 && ALIGNOF(.tbss) <= 64,
+        "guest: thread-local variables can be aligned to 64 bytes at most")
     __code_end = ADDR(.tdata) + SIZEOF(.tdata);
     ASSERT(__code_end <= 0x1000000, "guest: code and constants reach the data at 0x1000000")
 
     . = 0x1000000;
-    .data : { *(.sdata) *(.sdata.*) *(.data) *(.data.*) } :data
+    .data : { *(.sdata) *(.sdata.*) *(.data) *(.data.*) *(.got .got.*) } :data
     /* The program's own come first; those of the kit have sections by name. */
     .bss (NOLOAD) : ALIGN(8) { *(.sbss) *(.bss) *(COMMON) *(.sbss.*) *(.bss.*) } :data
     __data_end = .;
@@ -48,6 +53,6 @@ SECTIONS
         *(.debug_info .debug_abbrev .debug_aranges .debug_ranges .debug_rnglists .debug_loc)
         *(.debug_loclists .debug_str .debug_str_offsets .debug_addr .debug_frame .debug_names)
         *(.debug_pubnames .debug_pubtypes .debug_gnu_pubnames .debug_gnu_pubtypes .debug_macro)
-        *(.eh_frame .comment .riscv.attributes .note .note.* .llvm_addrsig)
+        *(.fini_array .fini_array.* .eh_frame .comment .riscv.attributes .note .note.* .llvm_addrsig)
     }
 }
