@@ -232,8 +232,11 @@ int main(void)
     try_atomics();
     try_memory();
     try_threads();
+#ifndef __clang__
+    // by GCC's library; with clang it is there only where GCC is installed, too
     volatile double half = 0.5;
     check(half * 4 == 2);
+#endif
     put_text("ok\n");
     return 0;
 }
