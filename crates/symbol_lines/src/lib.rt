@@ -1,0 +1,11 @@
+//! Function names, files and lines of code places.
+#![tactic(auto)]
+
+mod machine;
+mod operations;
+mod program;
+mod reading;
+mod rows;
+mod spans;
+mod symbols;
+mod units;
