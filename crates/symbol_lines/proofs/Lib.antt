@@ -4,3 +4,4 @@ pub mod Spanning
 pub mod KeptRows
 pub mod Shrinking
 pub mod Counting
+pub mod Owning

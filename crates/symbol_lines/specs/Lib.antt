@@ -6,3 +6,5 @@ pub mod Lines
 pub mod Symbols
 pub mod Kept
 pub mod MachineViews
+pub mod Frames
+pub mod Found
