@@ -2,7 +2,7 @@
 use Rattle.std.proofs.Common.{◌≡◌, ℕ, zero, suc, ◌+◌, ◌-◌, ◌<◌, ◌≤◌, Bool, true, false, cond, eqb, List, [], ◌∷◌, ◌++◌, length, Option, Some, None, refl, sym, ap, ◌∙◌, append_assoc, arith}
 use Rattle.std.specs.Prelude.{fold}
 use Rattle.std.specs.Option.{option_map}
-use Rattle.std.proofs.lemmas.Bool.{eq-eqb, ne_eqb}
+use Rattle.std.proofs.lemmas.Bool.{eq-eqb, ne_eqb, eqb-true}
 use Rattle.std.proofs.lemmas.List.{append-nil}
 use Rattle.symbol_lines.specs.Reading.{◌>>=◌, text_at}
 use Rattle.symbol_lines.specs.Program.{Rules, FileEntry, Operation, file_after, directories_at, files_at, operation_at, operations_in}
@@ -143,3 +143,10 @@ operations_over perform m r n i bytes total le some so_far =
     let not_empty : eqb (length bytes) 0 ≡ false = ne_eqb _ _ some in
     let one : option_map (fold perform m) (operations_in r (n - i) bytes) ≡ None = rw (k, not_empty) refl in
     sym one ∙ so_far
+
+-- the test of an empty list
+pub is_empty : (n : ℕ) (b : Bool) → b ≡ eqb n 0 → b ≡ true → n ≡ 0
+is_empty n b e h = eqb-true n 0 (sym e ∙ h)
+
+pub is_some : (n : ℕ) (b : Bool) → b ≡ eqb n 0 → b ≡ false → n ≡ 0 → ⊥
+is_some n b e h z = let one : eqb n 0 ≡ true = eq-eqb n 0 z in let two : eqb n 0 ≡ false = sym e ∙ h in cc

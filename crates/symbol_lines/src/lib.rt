@@ -9,5 +9,6 @@ mod reading;
 mod rows;
 mod spans;
 mod symbols;
+mod units;
 
 pub use names::{Frame, Names};
