@@ -26,7 +26,7 @@ filter_front p (x ∷ xs) (suc n) front back =
     let hit : p x ≡ true = front 0 x (omega arith) (omega arith) in
     rw hit (ap (λ (ys : List _). x ∷ ys) (filter_front p xs n (λ k d lt in'. front (suc k) d (omega arith) (omega arith)) (λ k d le lt. back (suc k) d (omega arith) (omega arith))))
 
-row_from-append : (o : Option Row) (xs ys : List Row) (p : ℕ) → row_from o (xs ++ ys) p ≡ row_from (row_from o xs p) ys p
+pub row_from-append : (o : Option Row) (xs ys : List Row) (p : ℕ) → row_from o (xs ++ ys) p ≡ row_from (row_from o xs p) ys p
 row_from-append o [] ys p = refl
 row_from-append o (x ∷ xs) ys p = row_from-append (cond (leb x.address p) (Some x) o) xs ys p
 

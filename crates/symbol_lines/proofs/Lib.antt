@@ -5,3 +5,6 @@ pub mod KeptRows
 pub mod Shrinking
 pub mod Counting
 pub mod Owning
+pub mod Gathering
+pub mod Looking
+pub mod Pathing

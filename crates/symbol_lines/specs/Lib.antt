@@ -8,3 +8,4 @@ pub mod Kept
 pub mod MachineViews
 pub mod Frames
 pub mod Found
+pub mod KeptLines

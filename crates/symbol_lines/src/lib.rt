@@ -4,9 +4,11 @@
 mod machine;
 mod names;
 mod operations;
+mod positions;
 mod program;
 mod reading;
 mod rows;
+mod sequences;
 mod spans;
 mod symbols;
 mod units;

@@ -1,6 +1,7 @@
 // Rows of line tables.
 ghost use Rattle.std.specs.Prelude.{◌≡◌, OnOk, OnErr};
 ghost use Rattle.symbol_lines.specs.Kept.{add_kept, IsRising};
+ghost use Rattle.symbol_lines.specs.Lines.{row_at};
 
 use std::alloc::AllocError;
 
@@ -25,4 +26,17 @@ pub fn add_row(rows: &mut Vec<Row>, row: Row) -> Result<(), AllocError>
     rows.truncate(count);
     rows.push(row)?;
     Ok(())
+}
+
+/// The last row at or below a place.
+pub fn find_row(rows: &[Row], place: u64) -> Option<Row>
+    requires { IsRising rows.now }
+    ensures { result ≡ row_at rows.now place }
+{
+    let count = rows.partition_point(|row| row.address <= place);
+    if count == 0 {
+        None
+    } else {
+        Some(rows[count - 1])
+    }
 }
