@@ -1,16 +1,16 @@
 -- The sequence and the row of a place.
-use Rattle.std.proofs.Common.{◌≡◌, ℕ, zero, suc, ◌+◌, ◌-◌, ◌<◌, ◌≤◌, ◌⊎◌, Bool, true, false, cond, leb, ltb, ◌&&◌, List, [], ◌∷◌, ◌++◌, length, get_or, map, take, drop, Option, Some, None, refl, sym, ap, ◌∙◌, inl, inr, add-zero, if◌then◌else◌, arith}
+use Rattle.std.proofs.Common.{subst, ◌≡◌, ℕ, zero, suc, ◌+◌, ◌-◌, ◌<◌, ◌≤◌, ◌⊎◌, Bool, true, false, cond, leb, ltb, eqb, ◌&&◌, List, [], ◌∷◌, ◌++◌, length, get_or, map, take, drop, Option, Some, None, refl, sym, ap, ◌∙◌, inl, inr, add-zero, if◌then◌else◌, arith}
 use Rattle.std.specs.Prelude.{find, slice_get}
 use Rattle.std.specs.Option.{option_map}
 use Rattle.std.proofs.lemmas.Bool.{cases_Bool, leb-true, ltb-true, ltb-false, lt-ltb, le-ltb}
-use Rattle.std.proofs.lemmas.List.{take_more, get_or_default, get_or-drop, length-drop, length-take, length-map, map_push, take-append-drop}
+use Rattle.std.proofs.lemmas.List.{take_more, get_or_default, get_or-map, get_or-drop, length-drop, length-take, length-map, map_push, take-append-drop}
 use Rattle.symbol_lines.specs.declared.spans.Owner.{Owner}
 use Rattle.symbol_lines.specs.declared.spans.Span.{Span}
 use Rattle.symbol_lines.specs.declared.rows.Row.{Row}
 use Rattle.symbol_lines.specs.Spans.{covers, better, own, owner_among}
 use Rattle.symbol_lines.specs.Kept.{KeptSequence, kept_rows}
-use Rattle.symbol_lines.specs.Lines.{Lines, Position, unknown, has_place, row_at, row_from, position_in, position_of, position_at, file_text}
-use Rattle.symbol_lines.specs.KeptLines.{kept_lines, with_texts, resolved, numbered}
+use Rattle.symbol_lines.specs.Lines.{Lines, Position, unknown, has_place, known, row_at, row_from, position_in, position_of, position_at, file_text}
+use Rattle.symbol_lines.specs.KeptLines.{kept_lines, resolved, numbered, text_or_none}
 use Rattle.symbol_lines.proofs.KeptRows.{row_at-kept, row_at-push, row_from-append}
 
 -- the number of the first sequence that has a place
@@ -139,5 +139,50 @@ pub numbered_more : {X : Type 0} (view : X → KeptSequence) (xs : List X) (i : 
     → numbered 0 (map view (take i xs)) ++ record { start = (view x).start; size = (view x).end - (view x).start; rank = 0; item = i } ∷ [] ≡ numbered 0 (map view (take (i + 1) xs))
 numbered_more {X} view xs i x lt is =
     let more : take (i + 1) xs ≡ take i xs ++ x ∷ [] = take_more xs i x lt ∙ ap (λ (y : X). take i xs ++ y ∷ []) (sym is) in
-    let len : length (map view (take i xs)) ≡ i = omega (arith, length-map view (take i xs), length-take i xs) in
+    let len : length (map view (take i xs)) ≡ i = omega (arith, length-map (take i xs) view, length-take i xs) in
     rw (more, map_push view (take i xs) x) (sym (numbered-push (map view (take i xs)) (view x) ∙ rw len refl))
+
+-- ---- a place in the tables
+
+item_of : (o : Owner) (f : Option ℕ) → Some o ≡ option_map owner_of f → f ≡ Some o.item
+item_of o None h = absurd (cc)
+item_of o (Some i) h =
+    let e : o ≡ owner_of i = cc in
+    let j : o.item ≡ i = ap (λ (x : Owner). x.item) e in
+    rw j refl
+
+no_item : (f : Option ℕ) → None ≡ option_map owner_of f → f ≡ None
+no_item None h = refl
+no_item (Some i) h = absurd (cc)
+
+pub placed : (ss : List KeptSequence) (p : ℕ) (o : Owner) → Some o ≡ owner_among (numbered 0 ss) p → IsFirstItem 0 ss p o.item
+placed ss p o h = first_found 0 ss p o.item (item_of o (first_item 0 ss p) (h ∙ owner_is_first 0 ss p))
+
+pub item_below : {X : Type 0} (view : X → KeptSequence) (xs : List X) (p : ℕ) (o : Owner) → Some o ≡ owner_among (numbered 0 (map view xs)) p → o.item < length xs
+item_below view xs p o h =
+    let g = placed (map view xs) p o h in
+    omega (arith, g.is, g.in_range, length-map xs view)
+
+pub missed : (ss : List KeptSequence) (p : ℕ) (ts : List (List (List ℕ))) → None ≡ owner_among (numbered 0 ss) p → unknown ≡ position_at (map (resolved ts) ss) p
+unfolding position_at
+missed ss p ts h = rw (none_found 0 ss p ts (no_item (first_item 0 ss p) (h ∙ owner_is_first 0 ss p))) refl
+
+pub found_position : {X : Type 0} (view : X → KeptSequence) (xs : List X) (p : ℕ) (ts : List (List (List ℕ))) (o : Owner) (x : X) → Some o ≡ owner_among (numbered 0 (map view xs)) p → x ≡ get_or xs o.item x
+    → position_at (map (resolved ts) (map view xs)) p ≡ position_in (resolved ts (view x)) (row_at (view x).rows p)
+unfolding position_at
+found_position view xs p ts o x h is =
+    let g = placed (map view xs) p o h in
+    let lt : g.index < length xs = omega (arith, g.in_range, length-map xs view) in
+    let same : o.item ≡ g.index = omega (arith, g.is) in
+    let here : get_or (map view xs) g.index (view x) ≡ view x = get_or-map view xs g.index x (view x) lt ∙ ap view (sym (rw same at is)) in
+    rw (g.found (view x) ts, here) refl
+
+pub known_is : (line : ℕ) (o : Option (List ℕ)) → known line o ≡ (if eqb (length (text_or_none o)) 0 then unknown else record { file = text_or_none o; line = line })
+known_is line None = refl
+known_is line (Some text) = refl
+
+pub empty_position : (line : ℕ) (o : Option (List ℕ)) (b : Bool) → b ≡ eqb (length (text_or_none o)) 0 → b ≡ true → unknown ≡ known line o
+empty_position line o b e h = let t : eqb (length (text_or_none o)) 0 ≡ true = sym e ∙ h in sym (known_is line o ∙ rw t refl)
+
+pub full_position : (line : ℕ) (o : Option (List ℕ)) (b : Bool) → b ≡ eqb (length (text_or_none o)) 0 → b ≡ false → record { file = text_or_none o; line = line } ≡ known line o
+full_position line o b e h = let t : eqb (length (text_or_none o)) 0 ≡ false = sym e ∙ h in sym (known_is line o ∙ rw t refl)
