@@ -1,4 +1,4 @@
-use Rattle.std.proofs.Common.{◌≡◌, List, [], Option, Some, None, map, get_or, sym, ap, ◌∙◌}
+use Rattle.std.proofs.Common.{◌≡◌, List, [], Option, Some, None, map, get_or, sym, ap, ◌∙◌, arith}
 use Rattle.symbol_lines.specs.declared.rows.Row.{Row}
 use Rattle.symbol_lines.specs.Lines.{position_in, row_at, file_text}
 use Rattle.symbol_lines.specs.KeptLines.{resolved, texts_view}
@@ -13,7 +13,9 @@ pub bounds-sequences-owner : goal.bounds-sequences-owner
 bounds-sequences-owner c = item_below sequence_view c.args.sequences.now c.args.place c.in-Some.owner (c.in-Some.ensures ∙ c.requires.value)
 
 pub offset_bounds-sequences-owner : goal.offset_bounds-sequences-owner
-offset_bounds-sequences-owner c = ?
+offset_bounds-sequences-owner c =
+    let below = item_below sequence_view c.args.sequences.now c.args.place c.in-Some.owner (c.in-Some.ensures ∙ c.requires.value) in
+    omega arith
 
 pub returns-in-None-find_row : goal.returns-in-None-find_row
 returns-in-None-find_row c =
