@@ -104,9 +104,9 @@ gathers_more section i rest unit after units found t ss lt read lines are g =
     let n = length section - (i + 1) in
     let k : length section - i ≡ suc n = omega arith in
     let old : map kept_lines (lines_in (length section - i) rest) ≡ map (with_texts t) ss ++ map kept_lines (lines_in n after) =
-      rw (k, ← read, lines) (map-append kept_lines (lines_of (unit_at unit)) (lines_in n after)) in
+    rw (k, ← read, lines) (map-append kept_lines (lines_of (unit_at unit)) (lines_in n after)) in
     let new : map (resolved (units ++ t ∷ [])) (found ++ ss) ≡ map (resolved units) found ++ map (with_texts t) ss =
-      map-append (resolved (units ++ t ∷ [])) found ss ∙ rw (resolved_more units t found g.below, resolved_last units t ss are) refl in
+    map-append (resolved (units ++ t ∷ [])) found ss ∙ rw (resolved_more units t found g.below, resolved_last units t ss are) refl in
     let len : length (units ++ t ∷ []) ≡ length units + 1 = omega (arith, length-append units (t ∷ [])) in
     record {
       lines = rw new (append_assoc (map (resolved units) found) (map (with_texts t) ss) (map kept_lines (lines_in n after)) ∙ ap (λ (ls : List Lines). map (resolved units) found ++ ls) (sym old) ∙ g.lines);

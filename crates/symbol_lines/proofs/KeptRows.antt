@@ -71,6 +71,6 @@ pub rising_push : (rows : List Row) (n : ℕ) (r : Row) → IsRising rows → ((
 rising_push rows n r up low le =
     IsNonDecreasingBy-push (λ (k : Row). k.address) (take n rows) r (IsNonDecreasingBy-take (λ (k : Row). k.address) n rows up)
     (λ d some.
-      let len : length (take n rows) ≡ n = omega (arith, length-take n rows) in
-      let e : get_or (take n rows) (length (take n rows) - 1) d ≡ get_or rows (length (take n rows) - 1) d = get_or-take n rows (length (take n rows) - 1) d (omega arith) in
-      rw e (omega (arith, low (length (take n rows) - 1) d (omega arith) (omega arith))))
+    let len : length (take n rows) ≡ n = omega (arith, length-take n rows) in
+    let e : get_or (take n rows) (length (take n rows) - 1) d ≡ get_or rows (length (take n rows) - 1) d = get_or-take n rows (length (take n rows) - 1) d (omega arith) in
+    rw e (omega (arith, low (length (take n rows) - 1) d (omega arith) (omega arith))))

@@ -95,9 +95,9 @@ kept_position : (l : Option Lines) (p : ℕ) → position_of (option_map kept_li
 kept_position None p = refl
 kept_position (Some l) p = rw (row_at-kept l.rows p) (same_files l (row_at l.rows p))
   where
-  same_files : (l : Lines) (o : Option Row) → position_in (kept_lines l) o ≡ position_in l o
-  same_files l None = refl
-  same_files l (Some row) = refl
+    same_files : (l : Lines) (o : Option Row) → position_in (kept_lines l) o ≡ position_in l o
+    same_files l None = refl
+    same_files l (Some row) = refl
 
 pub position_at-kept : (ls : List Lines) (p : ℕ) → position_at (map kept_lines ls) p ≡ position_at ls p
 unfolding position_at

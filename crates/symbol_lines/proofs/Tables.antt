@@ -141,10 +141,10 @@ pub is_next : (first second : List Step) (i j : ℕ) (d : Step) → IsNonDecreas
 is_next first second i j d up lt le = record {
   in_range = lt;
   low = λ k e after within.
-    let later : (get_or second j d).from ≤ (get_or second k d).from = up j k d after within in
-    let same : get_or first i e ≡ get_or first i d = get_or_default first i e d lt in
-    let same' : get_or second k e ≡ get_or second k d = get_or_default second k e d within in
-    rw (same, same') (omega arith);
+      let later : (get_or second j d).from ≤ (get_or second k d).from = up j k d after within in
+      let same : get_or first i e ≡ get_or first i d = get_or_default first i e d lt in
+      let same' : get_or second k e ≡ get_or second k d = get_or_default second k e d within in
+      rw (same, same') (omega arith);
 }
 
 -- a place is found behind the steps at or below it

@@ -51,7 +51,7 @@ unfoldable pub next_unit : List ℕ → Option (List ℕ × List ℕ)
 next_unit bs =
     word_at bs >>= λ len.
     if len.0 == 0xffffffff then
-      (long_at len.1 >>= λ wide. bytes_at wide.0 wide.1 >>= λ unit. Some ([], unit.1))
+    (long_at len.1 >>= λ wide. bytes_at wide.0 wide.1 >>= λ unit. Some ([], unit.1))
     else if nat_le 0xfffffff0 len.0 then None
     else bytes_at len.0 len.1
 

@@ -47,13 +47,16 @@ rules_at version bs =
     byte_at range.1 >>= λ opcodes.
     if range.0 == 0 || opcodes.0 == 0 then None
     else bytes_at (opcodes.0 - 1) opcodes.1 >>= λ counts.
-      Some (record {
+    Some (
+      record {
         minimum_length = minimum.0;
         line_base = signed_byte base.0;
         line_range = range.0;
         opcode_base = opcodes.0;
         operand_counts = counts.0;
-      }, counts.1)
+      },
+      counts.1,
+    )
 
 -- texts up to an empty one, of which so many bytes have at most so many
 unfoldable pub directories_at : ℕ → List ℕ → Option (List (List ℕ) × List ℕ)
@@ -85,11 +88,11 @@ unit_at bs =
     half_at bs >>= λ version.
     if nat_lt version.0 2 || nat_lt 4 version.0 then None
     else word_at version.1 >>= λ len.
-      bytes_at len.0 len.1 >>= λ header.
-      rules_at version.0 len.1 >>= λ rules.
-      directories_at (length rules.1) rules.1 >>= λ directories.
-      files_at (length directories.1) directories.1 >>= λ files.
-      Some (record { rules = rules.0; directories = directories.0; files = files; program = header.1 })
+    bytes_at len.0 len.1 >>= λ header.
+    rules_at version.0 len.1 >>= λ rules.
+    directories_at (length rules.1) rules.1 >>= λ directories.
+    files_at (length directories.1) directories.1 >>= λ files.
+    Some (record { rules = rules.0; directories = directories.0; files = files; program = header.1 })
 
 -- An operation does one of these.
 pub data Operation : Type 0 where
@@ -136,9 +139,9 @@ extended_in [] = Some nothing
 extended_in (opcode ∷ bs) =
     if opcode == 1 then Some EndSequence
     else if opcode == 2 then
-      (if length bs == 8 then (long_at bs >>= λ a. Some (SetAddress a.0)) else None)
+    (if length bs == 8 then (long_at bs >>= λ a. Some (SetAddress a.0)) else None)
     else if opcode == 3 then
-      (text_at bs >>= λ name. file_after name.0 name.1 >>= λ entry. Some (DefineFile entry.0))
+    (text_at bs >>= λ name. file_after name.0 name.1 >>= λ entry. Some (DefineFile entry.0))
     else Some nothing
 
 unfoldable pub extended_at : List ℕ → Option (Operation × List ℕ)

@@ -33,7 +33,7 @@ uleb_within (suc n) [] = None
 uleb_within (suc n) (b ∷ bs) =
     if nat_lt b 128 then Some (b, bs)
     else uleb_within n bs >>= λ high.
-      if nat_lt high.0 (2 ^ 57) then Some (b - 128 + 128 * high.0, high.1) else None
+    if nat_lt high.0 (2 ^ 57) then Some (b - 128 + 128 * high.0, high.1) else None
 
 -- of at most ten bytes and 64 bits
 abbrev pub uleb_at : List ℕ → Option (ℕ × List ℕ)
@@ -45,7 +45,7 @@ sleb_within zero bs = None
 sleb_within (suc n) [] = None
 sleb_within (suc n) (b ∷ bs) =
     if n == 0 then
-      (if b == 0 then Some (0, bs) else if b == 127 then Some (2 ^ 64 - 1, bs) else None)
+    (if b == 0 then Some (0, bs) else if b == 127 then Some (2 ^ 64 - 1, bs) else None)
     else if nat_lt b 64 then Some (b, bs)
     else if nat_lt b 128 then Some (2 ^ 64 - 128 + b, bs)
     else sleb_within n bs >>= λ high. Some ((b - 128 + 128 * high.0) % 2 ^ 64, high.1)

@@ -68,15 +68,16 @@ pub fn file_after<'a>(name: &'a [u8], bytes: &'a [u8]) -> Option<(FileEntry<'a>,
 fn address_advance(rules: &Rules<'_>, opcode: u8) -> u64
     ensures { result ≡ line_program.address_advance (rules_view rules.now) opcode }
 {
-    (opcode.saturating_sub(rules.opcode_base) / rules.line_range) as u64 * rules.minimum_length as u64
+    (opcode.saturating_sub(rules.opcode_base) / rules.line_range) as u64
+        * rules.minimum_length as u64
 }
 
 fn line_advance(rules: &Rules<'_>, opcode: u8) -> u64
     ensures { result ≡ line_program.line_advance (rules_view rules.now) opcode }
 {
-    rules
-        .line_base
-        .wrapping_add((opcode.saturating_sub(rules.opcode_base) % rules.line_range) as u64)
+    rules.line_base.wrapping_add(
+        (opcode.saturating_sub(rules.opcode_base) % rules.line_range) as u64,
+    )
 }
 
 /// So many ULEB128 numbers are passed over.
@@ -93,7 +94,11 @@ fn after_numbers(count: u8, bytes: &[u8]) -> Option<&[u8]>
 
 /// A standard opcode's operands.
 #[tactic(auto, unfolding(crate::specs::Program::standard_at))]
-fn standard_of<'a>(rules: &Rules<'a>, opcode: u8, bytes: &'a [u8]) -> Option<(Operation<'a>, &'a [u8])>
+fn standard_of<'a>(
+    rules: &Rules<'a>,
+    opcode: u8,
+    bytes: &'a [u8],
+) -> Option<(Operation<'a>, &'a [u8])>
     requires some { 0 < opcode }
     requires standard { opcode < rules.now.opcode_base }
     ensures { option_map (λ x. (operation_view x.0, x.1.now)) result ≡ line_program.standard_at (rules_view rules.now) opcode bytes.now }

@@ -43,4 +43,3 @@ pub enum Operation<'a> {
     EndSequence,
     DefineFile(FileEntry<'a>),
 }
-

@@ -133,7 +133,12 @@ fn next_unit(bytes: &[u8]) -> Option<(&[u8], &[u8])>
 }
 
 /// The sequences of the unit of this number, none where it is malformed or of another version.
-fn read_unit(alloc: Global, bytes: &[u8], number: usize, room: &mut u64) -> Result<UnitLines, NoMemory>
+fn read_unit(
+    alloc: Global,
+    bytes: &[u8],
+    number: usize,
+    room: &mut u64,
+) -> Result<UnitLines, NoMemory>
     ensures lines { IfOk result (λ u. map (with_texts (texts_view u.files)) (map sequence_view u.sequences.items) ≡ map kept_lines (lines_of (unit_at bytes.now))) }
     ensures units { IfOk result (λ u. UnitsAre number (map sequence_view u.sequences.items)) }
 {
@@ -161,7 +166,12 @@ fn read_unit(alloc: Global, bytes: &[u8], number: usize, room: &mut u64) -> Resu
         Some(machine) => machine,
         None => return Ok(no_lines(alloc)),
     };
-    let files = texts_of(alloc, directories.as_slice(), machine.files.as_slice(), room)?;
+    let files = texts_of(
+        alloc,
+        directories.as_slice(),
+        machine.files.as_slice(),
+        room,
+    )?;
     let sequences = std::mem::replace(&mut machine.sequences, Vec::new(alloc));
     Ok(UnitLines { sequences, files })
 }

@@ -37,13 +37,7 @@ fn better(first: Option<Owner>, second: Option<Owner>) -> Option<Owner>
     match (first, second) {
         (None, _) => second,
         (_, None) => first,
-        (Some(a), Some(b)) => {
-            if a.rank < b.rank {
-                second
-            } else {
-                first
-            }
-        }
+        (Some(a), Some(b)) => { if a.rank < b.rank { second } else { first } }
     }
 }
 

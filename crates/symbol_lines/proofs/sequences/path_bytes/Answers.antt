@@ -15,5 +15,5 @@ returns c =
     let d = get_or all i record { ref_ptr = (0, 0); now = [] } in
     let found : slice_get (map bytes all) i ≡ Some d.now = slice_get-map bytes all i ∙ ap (option_map bytes) (slice_get-get_or all i _ c.if-index-directories.false) in
     let path : c.extend_from_slice-3.new.self.items ≡ (d.now ++ 47 ∷ []) ++ c.args.file.name.now =
-      c.in_ok-extend_from_slice-3.ensures.items ∙ rw (c.in_ok-push.ensures.items, c.in_ok-extend_from_slice-2.ensures.items, c.new-path.ensures.items) refl in
+    c.in_ok-extend_from_slice-3.ensures.items ∙ rw (c.in_ok-push.ensures.items, c.in_ok-extend_from_slice-2.ensures.items, c.new-path.ensures.items) refl in
     ap (λ (t : List ℕ). Some t) path ∙ path_joined (map bytes all) (entry_view c.args.file) d.now c.if-file-eq0.false (sym c.if-begins_with_slash.ensures) found

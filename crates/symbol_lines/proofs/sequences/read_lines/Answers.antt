@@ -16,9 +16,9 @@ loop-preserved c =
     let n : c.len.result ≡ length (map texts_view c.loop.units.items) = omega (arith, c.len.ensures, length-map c.loop.units.items texts_view, c.loop.units.ok.0) in
     let are = rw n at c.in_ok-sequences.ensures.units in
     let more : map texts_view c.push.new.self.items ≡ map texts_view c.loop.units.items ++ t ∷ [] =
-      ap (map texts_view) c.in_ok-push.ensures.items ∙ map_push texts_view c.loop.units.items c.in_ok-sequences.field-0.files in
+    ap (map texts_view) c.in_ok-push.ensures.items ∙ map_push texts_view c.loop.units.items c.in_ok-sequences.field-0.files in
     let all : map sequence_view c.append.new.self.items ≡ map sequence_view c.loop.found.items ++ map sequence_view ss =
-      ap (map sequence_view) c.in_ok-append.ensures.items ∙ map-append sequence_view c.loop.found.items ss in
+    ap (map sequence_view) c.in_ok-append.ensures.items ∙ map-append sequence_view c.loop.found.items ss in
     let g = gathers_more c.args.section.now c.loop.counter c.loop.rest.now c.in-Some.read.0.now c.in-Some.read.1.now (map texts_view c.loop.units.items) (map sequence_view c.loop.found.items) t (map sequence_view ss) c.loop-test.true c.in-Some.ensures c.in_ok-sequences.ensures.lines are c.loop.invariant in
     let n = length c.args.section.now - (c.loop.counter + 1) in
     let after = c.in-Some.read.1.now in

@@ -15,7 +15,7 @@ returns-clause-lines c =
     let m = machine_view c.in-Some-2.machine in
     let read : unit_at c.args.bytes.now ≡ Some u = sym c.in_ok-unit.ensures ∙ ap (option_map unit_view) c.in-Some.is in
     let ran : Some m ≡ option_map (fold perform_kept (kept_machine c.args.number (begin u.files))) (operations_in u.rules (length u.program) u.program) =
-      sym (ap (option_map machine_view) c.in-Some-2.is) ∙ (rw (c.new.ensures.items, c.new-2.ensures.items) at c.in_ok-machine.ensures) in
+    sym (ap (option_map machine_view) c.in-Some-2.is) ∙ (rw (c.new.ensures.items, c.new-2.ensures.items) at c.in_ok-machine.ensures) in
     let texts = rw (c.as_slice.ensures.value, c.as_slice-2.ensures.value) at c.in_ok-files.ensures in
     rw (c.replace-sequences.ensures.value, read) (unit_read c.args.number u m (texts_view c.in_ok-files.files) (ends c.args.number u m ran) texts)
 
@@ -24,5 +24,5 @@ returns-clause-units c =
     let u = unit_view c.in-Some.unit in
     let m = machine_view c.in-Some-2.machine in
     let ran : Some m ≡ option_map (fold perform_kept (kept_machine c.args.number (begin u.files))) (operations_in u.rules (length u.program) u.program) =
-      sym (ap (option_map machine_view) c.in-Some-2.is) ∙ (rw (c.new.ensures.items, c.new-2.ensures.items) at c.in_ok-machine.ensures) in
+    sym (ap (option_map machine_view) c.in-Some-2.is) ∙ (rw (c.new.ensures.items, c.new-2.ensures.items) at c.in_ok-machine.ensures) in
     rw c.replace-sequences.ensures.value (unit_number c.args.number u m (ends c.args.number u m ran))

@@ -9,11 +9,11 @@ pub returns-clause-first : goal.returns-clause-first
 returns-clause-first c =
     let d : Step = record { from = 0; owner = None } in
     if_true _ (IsNext c.args.first.now c.args.i c.args.second.now c.args.j) (λ (h : leb (get_or c.args.first.now c.args.i d).from (get_or c.args.second.now c.args.j d).from ≡ true).
-      is_next c.args.first.now c.args.second.now c.args.i c.args.j d c.requires.second (omega arith) (leb-true _ _ h))
+    is_next c.args.first.now c.args.second.now c.args.i c.args.j d c.requires.second (omega arith) (leb-true _ _ h))
 
 pub returns-clause-second : goal.returns-clause-second
 returns-clause-second c =
     let d : Step = record { from = 0; owner = None } in
     if_false _ (IsNext c.args.second.now c.args.j c.args.first.now c.args.i) (λ (h : leb (get_or c.args.first.now c.args.i d).from (get_or c.args.second.now c.args.j d).from ≡ false).
-      let below = leb-false (get_or c.args.first.now c.args.i d).from (get_or c.args.second.now c.args.j d).from h in
-      is_next c.args.second.now c.args.first.now c.args.j c.args.i d c.requires.first (omega arith) (omega arith))
+    let below = leb-false (get_or c.args.first.now c.args.i d).from (get_or c.args.second.now c.args.j d).from h in
+    is_next c.args.second.now c.args.first.now c.args.j c.args.i d c.requires.first (omega arith) (omega arith))
