@@ -1,14 +1,13 @@
 -- The sequences of one unit after the other.
 use Rattle.std.proofs.Common.{◌≡◌, ℕ, zero, suc, ◌+◌, ◌-◌, ◌<◌, ◌≤◌, List, [], ◌∷◌, ◌++◌, length, get_or, map, Option, Some, None, refl, sym, ap, ◌∙◌, append_assoc, arith}
-use Rattle.std.specs.Prelude.{fold, unwrap_or}
+use Rattle.std.specs.Prelude.{fold}
 use Rattle.std.specs.Option.{option_map}
 use Rattle.std.proofs.lemmas.List.{append-nil, map-append, length-append}
 use Rattle.std.proofs.Math.ListN.{get_or-append}
 use Rattle.std.proofs.Math.Seq.{get_or-append_seam}
-use Rattle.symbol_lines.specs.Reading.{◌>>=◌}
 use Rattle.symbol_lines.specs.Program.{Unit as LineUnit, unit_at, Sequence, Operation, Machine, begin, perform, operations_in, after_program}
 use Rattle.symbol_lines.specs.Kept.{KeptSequence, KeptMachine, kept_sequence, kept_machine, perform_kept}
-use Rattle.symbol_lines.specs.Lines.{Lines, path_of, shown_path, with_files, lines_after, lines_of, next_unit, lines_in, sequences}
+use Rattle.symbol_lines.specs.Lines.{Lines, path_of, shown_path, with_files, lines_of, next_unit, lines_in, sequences}
 use Rattle.symbol_lines.specs.KeptLines.{kept_lines, with_texts, resolved, UnitsAre}
 use Rattle.symbol_lines.proofs.Shrinking.{program-kept}
 

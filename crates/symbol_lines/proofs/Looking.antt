@@ -1,15 +1,15 @@
 -- The sequence and the row of a place.
-use Rattle.std.proofs.Common.{subst, ◌≡◌, ℕ, zero, suc, ◌+◌, ◌-◌, ◌<◌, ◌≤◌, ◌⊎◌, Bool, true, false, cond, leb, ltb, eqb, ◌&&◌, List, [], ◌∷◌, ◌++◌, length, get_or, map, take, drop, Option, Some, None, refl, sym, ap, ◌∙◌, inl, inr, add-zero, if◌then◌else◌, arith}
-use Rattle.std.specs.Prelude.{find, slice_get}
+use Rattle.std.proofs.Common.{◌≡◌, ℕ, suc, ◌+◌, ◌-◌, ◌<◌, ◌≤◌, Bool, true, false, leb, ltb, eqb, ◌&&◌, List, [], ◌∷◌, ◌++◌, length, get_or, map, take, drop, Option, Some, None, refl, sym, ap, ◌∙◌, inl, inr, add-zero, if◌then◌else◌, arith}
+use Rattle.std.specs.Prelude.{find}
 use Rattle.std.specs.Option.{option_map}
 use Rattle.std.proofs.lemmas.Bool.{cases_Bool, leb-true, ltb-true, ltb-false, lt-ltb, le-ltb}
-use Rattle.std.proofs.lemmas.List.{take_more, get_or_default, get_or-map, get_or-drop, length-drop, length-take, length-map, map_push, take-append-drop}
+use Rattle.std.proofs.lemmas.List.{take_more, get_or-map, get_or-drop, length-drop, length-take, length-map, map_push, take-append-drop}
 use Rattle.symbol_lines.specs.declared.spans.Owner.{Owner}
 use Rattle.symbol_lines.specs.declared.spans.Span.{Span}
 use Rattle.symbol_lines.specs.declared.rows.Row.{Row}
-use Rattle.symbol_lines.specs.Spans.{covers, better, own, owner_among}
-use Rattle.symbol_lines.specs.Kept.{KeptSequence, kept_rows}
-use Rattle.symbol_lines.specs.Lines.{Lines, Position, unknown, has_place, known, row_at, row_from, position_in, position_of, position_at, file_text}
+use Rattle.symbol_lines.specs.Spans.{better, owner_among}
+use Rattle.symbol_lines.specs.Kept.{KeptSequence}
+use Rattle.symbol_lines.specs.Lines.{Lines, unknown, has_place, known, row_at, row_from, position_in, position_of, position_at}
 use Rattle.symbol_lines.specs.KeptLines.{kept_lines, resolved, numbered, text_or_none}
 use Rattle.symbol_lines.proofs.KeptRows.{row_at-kept, row_at-push, row_from-append}
 

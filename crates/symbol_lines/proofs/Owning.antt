@@ -1,5 +1,5 @@
 -- The owner of a place among the functions' ranges is the function over it.
-use Rattle.std.proofs.Common.{◌≡◌, ℕ, ◌+◌, Bool, true, false, cond, ltb, List, [], ◌∷◌, map, Option, Some, None, refl, sym, ap, ◌∙◌, inl, inr}
+use Rattle.std.proofs.Common.{◌≡◌, ℕ, ltb, List, [], ◌∷◌, map, Option, Some, None, refl, ap, ◌∙◌, inl, inr}
 use Rattle.std.specs.Option.{option_map}
 use Rattle.std.proofs.lemmas.Bool.{cases_Bool}
 use Rattle.symbol_lines.specs.declared.spans.Owner.{Owner}

@@ -1,8 +1,7 @@
 -- Paths of files.
-use Rattle.std.proofs.Common.{◌≡◌, ℕ, ◌+◌, ◌-◌, ◌≤◌, ◌<◌, ◌⊎◌, true, false, eqb, List, [], ◌∷◌, ◌++◌, length, get_or, map, take, Option, Some, None, refl, sym, ap, ◌∙◌, inl, inr, append_assoc, arith}
+use Rattle.std.proofs.Common.{◌≡◌, ℕ, ◌-◌, ◌⊎◌, true, false, eqb, List, [], ◌∷◌, ◌++◌, get_or, Some, None, refl, ap, inl, inr, append_assoc}
 use Rattle.std.specs.Prelude.{slice_get}
 use Rattle.std.proofs.lemmas.Bool.{cases_Bool, eq-eqb, ne_eqb}
-use Rattle.std.proofs.lemmas.List.{take_more, map_push, map-append}
 use Rattle.symbol_lines.specs.Program.{FileEntry}
 use Rattle.symbol_lines.specs.Lines.{path_of}
 

@@ -3,8 +3,8 @@ use Rattle.std.proofs.Common.{◌≡◌, ℕ, ◌+◌, ◌%◌, ◌^◌, List, [
 use Rattle.std.specs.Prelude.{fold, unwrap_or}
 use Rattle.std.proofs.lemmas.List.{map_push}
 use Rattle.symbol_lines.specs.declared.rows.Row.{Row}
-use Rattle.symbol_lines.specs.Program.{FileEntry, Sequence, Operation, Machine, Advance, AddRow, SetAddress, SetFile, EndSequence, DefineFile, perform, first_address}
-use Rattle.symbol_lines.specs.Kept.{add_kept, kept_rows, KeptMachine, perform_kept, kept_sequence, first_of, kept_machine}
+use Rattle.symbol_lines.specs.Program.{Operation, Machine, Advance, AddRow, SetAddress, SetFile, EndSequence, DefineFile, perform, first_address}
+use Rattle.symbol_lines.specs.Kept.{add_kept, KeptMachine, perform_kept, kept_sequence, first_of, kept_machine}
 use Rattle.symbol_lines.proofs.KeptRows.{fold-push}
 
 first_of-push : (rows : List Row) (r : Row) → first_of (rows ++ r ∷ []) ≡ Some (unwrap_or (first_of rows) r.address)

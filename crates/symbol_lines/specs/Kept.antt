@@ -1,5 +1,5 @@
 -- What is kept of the tables, so that a place is found by binary search.
-use Rattle.std.specs.Prelude.{ℕ, ◌+◌, ◌%◌, ◌^◌, Bool, nat_lt, List, [], ◌∷◌, ◌++◌, filter, map, fold, unwrap_or, Option, Some, None}
+use Rattle.std.specs.Prelude.{ℕ, ◌+◌, ◌%◌, ◌^◌, nat_lt, List, [], ◌∷◌, ◌++◌, filter, map, fold, unwrap_or, Option, Some, None}
 use Rattle.std.specs.List.Sorted.{IsNonDecreasingBy}
 use Rattle.symbol_lines.specs.declared.spans.Span.{Span}
 use Rattle.symbol_lines.specs.declared.rows.Row.{Row}

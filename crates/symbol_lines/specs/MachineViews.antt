@@ -1,5 +1,5 @@
 -- The machine's values, without where they lie in memory.
-use Rattle.std.specs.Prelude.{ℕ, List, map}
+use Rattle.std.specs.Prelude.{map}
 use Rattle.symbol_lines.specs.declared.machine.Sequence.{Sequence}
 use Rattle.symbol_lines.specs.declared.machine.Machine.{Machine}
 use Rattle.symbol_lines.specs.Kept.{KeptSequence, KeptMachine}

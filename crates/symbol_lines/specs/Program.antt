@@ -1,6 +1,6 @@
 -- Line number programs (DWARF 2 to 4, "Line Number Information"): a unit's header, the operations of its program, and
 -- the rows that they give.
-use Rattle.std.specs.Prelude.{ℕ, zero, suc, ◌+◌, ◌-◌, ◌*◌, ◌/◌, ◌%◌, ◌^◌, ◌==◌, ◌||◌, ◌&&◌, not, Bool, nat_lt, nat_le, if◌then◌else◌, List, [], ◌∷◌, ◌++◌, length, take, drop, slice_index, slice_get, fold, Option, Some, None}
+use Rattle.std.specs.Prelude.{ℕ, zero, suc, ◌+◌, ◌-◌, ◌*◌, ◌/◌, ◌%◌, ◌^◌, ◌==◌, ◌||◌, nat_lt, nat_le, if◌then◌else◌, List, [], ◌∷◌, ◌++◌, length, slice_index, fold, Option, Some, None}
 use Rattle.std.specs.Option.{option_map}
 use Rattle.symbol_lines.specs.declared.rows.Row.{Row}
 use Rattle.symbol_lines.specs.Reading.{◌>>=◌, byte_at, half_at, word_at, long_at, bytes_at, uleb_at, sleb_at, text_at}

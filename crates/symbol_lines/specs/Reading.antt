@@ -1,6 +1,6 @@
 -- Numbers and texts at the front of bytes, as the DWARF standards spell them: each definition gives what was read and
 -- the bytes after it, and None where they are malformed.
-use Rattle.std.specs.Prelude.{ℕ, zero, suc, ◌+◌, ◌-◌, ◌*◌, ◌%◌, ◌^◌, ◌==◌, ◌||◌, Bool, nat_lt, nat_le, if◌then◌else◌, List, [], ◌∷◌, length, take, drop, Option, Some, None}
+use Rattle.std.specs.Prelude.{ℕ, zero, suc, ◌+◌, ◌-◌, ◌*◌, ◌%◌, ◌^◌, ◌==◌, nat_lt, if◌then◌else◌, List, [], ◌∷◌, length, take, drop, Option, Some, None}
 use Rattle.elf_image.specs.Bytes.{u16_at, u32_at, u64_at}
 
 infixl 10 ◌>>=◌

@@ -1,6 +1,5 @@
 -- Values of the code, without where they lie in memory.
-use Rattle.std.specs.Prelude.{ℕ, List, map}
-use Rattle.std.specs.Global.{Vec}
+use Rattle.std.specs.Prelude.{map}
 use Rattle.symbol_lines.specs.declared.program.Rules.{Rules}
 use Rattle.symbol_lines.specs.declared.program.FileEntry.{FileEntry}
 use Rattle.symbol_lines.specs.declared.program.Operation.{Operation}

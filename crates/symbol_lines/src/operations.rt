@@ -166,7 +166,7 @@ fn extended_of(bytes: &[u8]) -> Option<(Operation<'_>, &[u8])>
     Some((operation, rest))
 }
 
-/// The operation at the front of a line_program.
+/// The operation at the front of a program.
 #[tactic(auto, unfolding(crate::specs::Program::operation_at))]
 pub fn operation_of<'a>(rules: &Rules<'a>, bytes: &'a [u8]) -> Option<(Operation<'a>, &'a [u8])>
     ensures { option_map (λ x. (operation_view x.0, x.1.now)) result ≡ line_program.operation_at (rules_view rules.now) bytes.now }

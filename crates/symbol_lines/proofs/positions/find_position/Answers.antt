@@ -1,4 +1,4 @@
-use Rattle.std.proofs.Common.{◌≡◌, List, [], Option, Some, None, map, get_or, sym, ap, ◌∙◌, arith}
+use Rattle.std.proofs.Common.{◌≡◌, [], Option, Some, None, map, get_or, sym, ap, ◌∙◌, arith}
 use Rattle.symbol_lines.specs.declared.rows.Row.{Row}
 use Rattle.symbol_lines.specs.Lines.{position_in, row_at, file_text}
 use Rattle.symbol_lines.specs.KeptLines.{resolved, texts_view}

@@ -1,4 +1,4 @@
-use Rattle.std.proofs.Common.{◌≡◌, List, ◌∷◌, [], ◌++◌, ltb, sym, ap, arith, rules}
+use Rattle.std.proofs.Common.{List, ◌∷◌, [], ◌++◌, ltb, sym, ap, arith, rules}
 use Rattle.std.proofs.lemmas.Bool.{ltb-true}
 use Rattle.std.proofs.lemmas.List.Sorted.{IsPartitionPoint-from_clause, IsPartitionedBy-ltb}
 use Rattle.symbol_lines.specs.declared.rows.Row.{Row}

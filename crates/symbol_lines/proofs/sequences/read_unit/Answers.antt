@@ -1,4 +1,4 @@
-use Rattle.std.proofs.Common.{◌≡◌, length, map, Some, sym, ap, ◌∙◌}
+use Rattle.std.proofs.Common.{◌≡◌, length, Some, sym, ap, ◌∙◌}
 use Rattle.std.specs.Prelude.{fold}
 use Rattle.std.specs.Option.{option_map}
 use Rattle.symbol_lines.specs.Program.{unit_at, begin, operations_in}
@@ -6,7 +6,7 @@ use Rattle.symbol_lines.specs.Kept.{kept_machine, perform_kept}
 use Rattle.symbol_lines.specs.KeptLines.{texts_view}
 use Rattle.symbol_lines.specs.Views.{unit_view}
 use Rattle.symbol_lines.specs.MachineViews.{machine_view}
-use Rattle.symbol_lines.proofs.Gathering.{Ends, ends, unit_read, unit_number}
+use Rattle.symbol_lines.proofs.Gathering.{ends, unit_read, unit_number}
 use Rattle.symbol_lines.proofs.sequences.read_unit.Goals as goal
 
 pub returns-clause-lines : goal.returns-clause-lines

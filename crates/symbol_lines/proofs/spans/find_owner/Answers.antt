@@ -1,4 +1,4 @@
-use Rattle.std.proofs.Common.{ℕ, ◌-◌, None, leb, arith, rules}
+use Rattle.std.proofs.Common.{◌-◌, None, leb, arith, rules}
 use Rattle.std.proofs.lemmas.List.Sorted.{IsPartitionPoint-from_clause, IsPartitionedBy-leb}
 use Rattle.symbol_lines.specs.declared.spans.Step.{Step}
 use Rattle.symbol_lines.proofs.Tables.{owner_at_none, owner_at_some}

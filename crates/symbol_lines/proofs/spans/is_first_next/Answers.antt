@@ -1,4 +1,4 @@
-use Rattle.std.proofs.Common.{◌≡◌, ◌≤◌, None, get_or, leb, true, false, arith}
+use Rattle.std.proofs.Common.{◌≡◌, None, get_or, leb, true, false, arith}
 use Rattle.std.proofs.lemmas.Bool.{leb-true, leb-false}
 use Rattle.symbol_lines.specs.declared.spans.Step.{Step}
 use Rattle.symbol_lines.specs.Spans.{IsNext}

@@ -1,7 +1,7 @@
-use Rattle.std.proofs.Common.{None, get_or, sym, rules, arith}
+use Rattle.std.proofs.Common.{None, get_or}
 use Rattle.std.proofs.lemmas.List.{get_or_default}
 use Rattle.symbol_lines.specs.declared.spans.Step.{Step}
-use Rattle.symbol_lines.proofs.Tables.{first_taken, second_taken, none_merged, all_merged}
+use Rattle.symbol_lines.proofs.Tables.{first_taken, second_taken}
 use Rattle.symbol_lines.proofs.spans.merge.Goals as goal
 use Rattle.symbol_lines.proofs.spans.merge.Goals.{then-is_first_next, else-is_first_next}
 

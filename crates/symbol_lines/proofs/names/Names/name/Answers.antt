@@ -1,5 +1,4 @@
-use Rattle.std.proofs.Common.{◌≡◌, Some, None, map, sym, ◌∙◌, arith}
-use Rattle.symbol_lines.specs.declared.spans.Owner.{Owner}
+use Rattle.std.proofs.Common.{◌≡◌, Some, None, map, ◌∙◌, arith}
 use Rattle.symbol_lines.specs.Spans.{owner_among}
 use Rattle.symbol_lines.specs.Symbols.{functions, name_of}
 use Rattle.symbol_lines.specs.Kept.{function_span}
