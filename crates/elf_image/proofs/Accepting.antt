@@ -1,5 +1,5 @@
 -- What an accepted file's segments and regions are like.
-use Rattle.std.proofs.Common.{◌≡◌, ℕ, ◌*◌, ◌/◌, ◌≤◌, Bool, true, false, List, [], ◌∷◌, length, get_or, map, Option, Some, None, Ok, refl, if◌then◌else◌, arith, lit≤}
+use Rattle.std.proofs.Common.{◌≡◌, ℕ, ◌*◌, ◌/◌, ◌≤◌, Bool, true, false, ltb, eqb, not, ◌||◌, List, [], ◌∷◌, length, get_or, map, Option, Some, None, Ok, refl, if◌then◌else◌, arith, lit≤}
 use Rattle.std.proofs.lemmas.Bool.Decides.{nat_tests}
 use Rattle.std.proofs.lemmas.List.Elements.{All-cons, filter_passes}
 use Rattle.std.proofs.lemmas.List.Sums.{sum_by-cons}
@@ -8,6 +8,7 @@ use Rattle.std.specs.List.{All, sum_by}
 use Rattle.std.specs.List.Sorted.{IsPermutation}
 use Rattle.elf_image.specs.declared.fault.ElfFault.{ElfFault}
 use Rattle.elf_image.specs.declared.header.ProgramHeader.{ProgramHeader}
+use Rattle.elf_image.specs.Bytes.{u32_at}
 use Rattle.elf_image.specs.Headers.{region, stack, takes_memory, is_outside, has_bad_sizes, is_writable, IsSound}
 use Rattle.elf_image.specs.Regions.{size, granules_in, granule_count, RisesFrom}
 use Rattle.elf_image.specs.File.{headers, segments, by_address, segments_of, regions_of, has_overlap, writable_bytes, needs_too_much, header_fault, segment_fault, memory_fault, judged, or_next, image_of}
@@ -122,3 +123,10 @@ orderly file accepted =
     let apart = if_none _ _ _ none.of_memory in
     let little = if_none _ _ _ apart.1 in
     orderly_from file none.of_segments apart.0 little.0
+
+-- an accepted file has its whole header
+pub has_header : (file : List ℕ) → image_of file ≡ Ok file → 64 ≤ length file
+unfolding header_fault
+has_header file accepted =
+    let passed : (ltb (length file) 64 || not (eqb (u32_at file 0) 0x464c457f)) ≡ false = (if_none _ _ _ (no_fault file accepted).of_header).0 in
+    grind (arith, nat_tests)

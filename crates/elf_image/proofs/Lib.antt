@@ -5,3 +5,4 @@ pub mod Accepting
 pub mod Loaded
 pub mod Kept
 pub mod MemoryLaws
+pub mod Finding

@@ -3,3 +3,4 @@ pub mod Headers
 pub mod Regions
 pub mod File
 pub mod Accepted
+pub mod Sections

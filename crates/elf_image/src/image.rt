@@ -2,12 +2,15 @@
 ghost use Rattle.std.specs.Prelude.{◌≡◌, ◌%◌, ◌^◌, ◌<◌, ◌≤◌, false, length, IfNone, IfSome};
 ghost use Rattle.std.specs.List.{list_any};
 ghost use Rattle.elf_image.specs.Bytes.{long_of};
+ghost use Rattle.std.specs.Option.{option_copied, option_map};
 ghost use Rattle.elf_image.specs.File as file;
 ghost use Rattle.elf_image.specs.Regions.{IsAt, RisesFrom, contains};
+ghost use Rattle.elf_image.specs.Sections as sections;
 
 use crate::header::ProgramHeader;
 use crate::memory::{find_region, home_of};
 use crate::region::Region;
+use crate::section;
 use std::marker::Model;
 
 /// An accepted file. Contracts see its bytes. No call takes memory.
@@ -181,5 +184,24 @@ impl Image<'_> {
         ensures { result ≡ long_of (file.byte_at self.now) address }
     {
         self.segments[index].long_of(self.bytes, address)
+    }
+}
+
+impl<'a> Image<'a> {
+    /// The bytes of the first section of this name that lies in the file and isn't compressed. None where there is none
+    /// such, or the section table is malformed (System V ABI, "Sections").
+    pub fn section(&self, name: &str) -> Option<&'a [u8]>
+        ensures { option_copied result ≡ sections.section self.now name.now }
+    {
+        section::section(self.bytes, name.as_bytes())
+    }
+
+    /// The bytes of the first symbol table that lies in the file and isn't compressed, and of the string table that it
+    /// is linked to (System V ABI, "Symbol Table"). None where there is none such, its link names no string table that
+    /// lies in the file and isn't compressed, or the section table is malformed.
+    pub fn symbol_tables(&self) -> Option<(&'a [u8], &'a [u8])>
+        ensures { option_map (λ t. (t.0.now, t.1.now)) result ≡ sections.symbol_tables self.now }
+    {
+        section::symbol_tables(self.bytes)
     }
 }

@@ -10,7 +10,7 @@
 //! granule. `laws.rt` has what callers need of granules: each granule has one number and one block of eight bytes.
 #![tactic(auto)]
 
-mod bytes;
+pub mod bytes;
 mod fault;
 mod header;
 mod image;
@@ -18,6 +18,7 @@ pub mod laws;
 mod loading;
 mod memory;
 mod region;
+mod section;
 #[cfg(test)]
 mod tests;
 

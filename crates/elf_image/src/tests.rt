@@ -218,3 +218,79 @@ fn takes_many_headers(rt: HostRuntime) -> Result<(), Fail> {
     assert_eq!(rt; image.regions().len(), 2);
     Ok(())
 }
+
+// Section headers: names, types, flags, offsets, sizes and links, and their bytes.
+const NAMES: &[u8] = b"\0.text\0.symtab\0.strtab\0.names\0.tex";
+
+fn put_section(
+    bytes: &mut Vec<u8>,
+    words: [u32; 2],
+    fields: [u64; 3],
+    link: u32,
+) -> Result<(), AllocError> {
+    let [flags, offset, size] = fields;
+    put_words(bytes, &words)?;
+    put_longs(bytes, &[flags, 0, offset, size])?;
+    put_words(bytes, &[link, 0])?;
+    put_longs(bytes, &[1, 0])
+}
+
+// The example with six sections behind it; the names stand at 280 and the headers at 320.
+fn sectioned(alloc: Global) -> Result<Vec<u8>, AllocError> {
+    let mut bytes = example(alloc, 2048)?;
+    bytes.extend_from_slice(NAMES)?;
+    while bytes.len() < 320 {
+        bytes.push(0)?;
+    }
+    put_section(&mut bytes, [0, 0], [0, 0, 0], 0)?;
+    put_section(&mut bytes, [1, 1], [0x800, 176, 4], 0)?;
+    put_section(&mut bytes, [1, 1], [6, 180, 8], 0)?;
+    put_section(&mut bytes, [7, 2], [0, 184, 24], 4)?;
+    put_section(&mut bytes, [15, 3], [0, 208, 5], 0)?;
+    put_section(&mut bytes, [23, 3], [0, 280, 35], 0)?;
+    for (at, value) in [(40, 64), (41, 1), (58, 64), (60, 6), (62, 5)] {
+        if let Some(byte) = bytes.get_mut(at) {
+            *byte = value;
+        }
+    }
+    Ok(bytes)
+}
+
+#[test]
+fn finds_sections(rt: HostRuntime) -> Result<(), Fail> {
+    let bytes = sectioned(rt.alloc())?;
+    let image = load(rt.alloc(), bytes.as_slice())?;
+    // The first of its name is compressed. A name that doesn't end in the table is none.
+    assert_eq!(rt; image.section(".text"), bytes.get(180..188));
+    assert_eq!(rt; image.section(".tex"), None);
+    assert_eq!(rt; image.section(""), bytes.get(0..0));
+    let tables = image.symbol_tables().ok_or("no symbols")?;
+    assert_eq!(rt; Some(tables.0), bytes.get(184..208));
+    assert_eq!(rt; Some(tables.1), bytes.get(208..213));
+
+    // Where a byte is changed: the section table is malformed, or the symbols' link is no string table.
+    let changes = [
+        (58, 63, false, false),
+        (60, 5, false, false),
+        (62, 6, false, false),
+        (41, 2, false, false),
+        (320 + 64 * 2 + 33, 3, false, true),
+        (320 + 64 * 3 + 40, 2, true, false),
+        (320 + 64 * 3 + 40, 6, true, false),
+        (320 + 64 * 3 + 9, 8, true, false),
+        (320 + 64 * 5 + 9, 8, false, true),
+    ];
+    for (offset, value, has_text, has_symbols) in changes {
+        let mut bytes = sectioned(rt.alloc())?;
+        if let Some(byte) = bytes.get_mut(offset) {
+            *byte = value;
+        }
+        let image = load(rt.alloc(), bytes.as_slice())?;
+        let found = (
+            image.section(".text").is_some(),
+            image.symbol_tables().is_some(),
+        );
+        assert_eq!(rt; found, (has_text, has_symbols), "at {offset}");
+    }
+    Ok(())
+}

@@ -1,0 +1,10 @@
+pub mod Tables
+pub mod Texts
+pub mod Spanning
+pub mod KeptRows
+pub mod Shrinking
+pub mod Counting
+pub mod Owning
+pub mod Gathering
+pub mod Looking
+pub mod Pathing

@@ -1,0 +1,11 @@
+pub mod Spans
+pub mod Reading
+pub mod Program
+pub mod Views
+pub mod Lines
+pub mod Symbols
+pub mod Kept
+pub mod MachineViews
+pub mod Frames
+pub mod Found
+pub mod KeptLines

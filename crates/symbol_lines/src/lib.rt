@@ -1,0 +1,30 @@
+//! Function names, files and lines of code places.
+//!
+//! `Names::read` takes the symbol table and the section .debug_line of an accepted file (`elf_image`), and `Names::frame`
+//! gives what is known of a place: its function, of those that have it the one with the greatest start and the first of
+//! these in the table (System V ABI, "Symbol Table"), and its file and line, those of the last row at or below it in the
+//! first sequence that has it (DWARF 2 to 4, "Line Number Information"). `run_record` names want of memory. A table that
+//! is malformed gives no names; a unit that is malformed or of another version gives no lines.
+//!
+//! In contracts names are the tables that they were read from, `tables_of` of `specs/Frames.antt`; a frame's name is
+//! `name_of` of `specs/Symbols.antt`, and its file and line are `position_at` of `specs/Lines.antt`. The layers above use
+//! the clauses of these two calls. `read` sorts functions and sequences, also where they nest or overlap, into tables of
+//! steps, and keeps of each sequence the rows that a place can have; `frame` is a binary search in each of them and takes
+//! no memory.
+#![tactic(auto)]
+
+mod machine;
+mod names;
+mod operations;
+mod positions;
+mod program;
+mod reading;
+mod rows;
+mod sequences;
+mod spans;
+mod symbols;
+#[cfg(test)]
+mod tests;
+mod units;
+
+pub use names::{Frame, Names};

@@ -1,0 +1,119 @@
+// Names of code places.
+ghost use Rattle.std.specs.Prelude.{◌≡◌, IfOk};
+
+use crate::machine::Sequence;
+use crate::positions::find_position;
+use crate::sequences::{AllLines, read_lines, sequence_spans};
+use crate::spans::{Step, find_owner, steps_of};
+use crate::symbols::{function_spans, name_at};
+use elf_image::Image;
+use run_record::NoMemory;
+use std::alloc::Global;
+use std::marker::Model;
+
+/// The function, the file and the line of a place: empty texts and 0 where they are not known.
+#[derive(Clone, Copy)]
+pub struct Frame<'a> {
+    pub name: &'a str,
+    pub file: &'a str,
+    pub line: u64,
+}
+
+/// The names of an executable's code places. Contracts see the tables of the file that they are read from.
+#[derive(Drop)]
+pub struct Names<'a> {
+    symbols: &'a [u8],
+    strings: &'a [u8],
+    lines: &'a [u8],
+    functions: Vec<Step>,
+    places: Vec<Step>,
+    sequences: Vec<Sequence>,
+    units: Vec<Vec<String>>,
+}
+
+impl<'a> Model for Names<'a> {
+    ghost use Rattle.std.specs.Prelude.{map};
+    ghost use Rattle.symbol_lines.specs.Frames.{Tables};
+    ghost use Rattle.symbol_lines.specs.Found.{IsRead};
+    ghost use Rattle.symbol_lines.specs.KeptLines.{texts_view};
+    ghost use Rattle.symbol_lines.specs.MachineViews.{sequence_view};
+
+    ghost Value = { Tables };
+
+    ghost view = { λ n. record { symbols = n.symbols.now; strings = n.strings.now; lines = n.lines.now } };
+
+    ghost invariant = { λ n. IsRead n.symbols.now n.lines.now n.functions.items n.places.items (map sequence_view n.sequences.items) (map texts_view n.units.items) };
+}
+
+impl<'a> Names<'a> {
+    ghost use Rattle.symbol_lines.specs.Frames.{tables_of};
+
+    /// The names of an executable's code places. It takes memory in proportion to the tables, and at most 256 MiB for
+    /// the texts of files that are put together from a directory and a name.
+    pub fn read(alloc: Global, image: &Image<'a>) -> Result<Names<'a>, NoMemory>
+        ensures { IfOk result (λ names. names ≡ tables_of image.now) }
+    {
+        let (symbols, strings) = match image.symbol_tables() {
+            Some(tables) => tables,
+            None => (b"".as_slice(), b"".as_slice()),
+        };
+        let lines = match image.section(".debug_line") {
+            Some(lines) => lines,
+            None => b"".as_slice(),
+        };
+        let spans = function_spans(alloc, symbols)?;
+        let functions = steps_of(alloc, spans.as_slice())?;
+        let all = read_lines(alloc, lines)?;
+        let spans = sequence_spans(alloc, all.sequences.as_slice())?;
+        let places = steps_of(alloc, spans.as_slice())?;
+        let AllLines { sequences, units } = all;
+        Ok(Names {
+            symbols,
+            strings,
+            lines,
+            functions,
+            places,
+            sequences,
+            units,
+        })
+    }
+}
+
+impl Names<'_> {
+    ghost use Rattle.symbol_lines.specs.Symbols.{name_of};
+    ghost use Rattle.symbol_lines.specs.Lines.{position_at, sequences};
+    ghost use Rattle.symbol_lines.specs.KeptLines.{position_view};
+
+    /// What is known of a place. It takes no memory.
+    pub fn frame(&self, place: u64) -> Frame<'_>
+        ensures name { result.name.now ≡ name_of self.now.symbols self.now.strings place }
+        ensures file { result.file.now ≡ (position_at (sequences self.now.lines) place).file }
+        ensures line { result.line ≡ (position_at (sequences self.now.lines) place).line }
+    {
+        let name = self.name(place);
+        let (file, line) = self.position(place);
+        Frame { name, file, line }
+    }
+
+    // The name of the function over a place.
+    fn name(&self, place: u64) -> &str
+        ensures { result.now ≡ name_of self.now.symbols self.now.strings place }
+    {
+        match find_owner(self.functions.as_slice(), place) {
+            Some(owner) => name_at(self.strings, owner.item),
+            None => "",
+        }
+    }
+
+    // The file and the line of a place.
+    fn position(&self, place: u64) -> (&str, u64)
+        ensures { position_view result ≡ position_at (sequences self.now.lines) place }
+    {
+        find_position(
+            self.places.as_slice(),
+            self.sequences.as_slice(),
+            self.units.as_slice(),
+            place,
+        )
+    }
+}

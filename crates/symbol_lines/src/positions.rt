@@ -1,0 +1,58 @@
+// The file and the line of a place, in tables that are sorted.
+ghost use Rattle.std.specs.Prelude.{◌≡◌, map, slice_index_or, slice_get, []};
+ghost use Rattle.std.specs.List.Sorted.{IsNonDecreasingBy};
+ghost use Rattle.symbol_lines.specs.Spans.{owner_at, owner_among};
+ghost use Rattle.symbol_lines.specs.Lines.{position_at, file_text};
+ghost use Rattle.symbol_lines.specs.KeptLines.{resolved, texts_view, numbered, text_or_none, position_view};
+ghost use Rattle.symbol_lines.specs.MachineViews.{sequence_view};
+
+use crate::machine::Sequence;
+use crate::rows::find_row;
+use crate::spans::{Step, find_owner};
+
+/// The text of a file of a unit, and none where there is no such file. Files are counted from 1.
+fn text_at(units: &[Vec<String>], unit: usize, number: u64) -> &str
+    ensures { result.now ≡ text_or_none (file_text (slice_index_or (map texts_view units.now) unit []) number) }
+{
+    if number == 0 || unit >= units.len() {
+        return "";
+    }
+    text_in(&units[unit], number - 1)
+}
+
+fn text_in(texts: &Vec<String>, index: u64) -> &str
+    ensures { result.now ≡ text_or_none (slice_get (texts_view texts.now) index) }
+{
+    if index >= texts.len() as u64 {
+        return "";
+    }
+    texts[index as usize].as_str()
+}
+
+/// The file and the line of a place: the first sequence that has it, and there the last row at or below it.
+pub fn find_position<'a>(
+    steps: &[Step],
+    sequences: &[Sequence],
+    units: &'a [Vec<String>],
+    place: u64,
+) -> (&'a str, u64)
+    requires rising { IsNonDecreasingBy (λ s. s.from) steps.now }
+    requires value { owner_at steps.now place ≡ owner_among (numbered 0 (map sequence_view sequences.now)) place }
+    ensures { position_view result ≡ position_at (map (resolved (map texts_view units.now)) (map sequence_view sequences.now)) place }
+{
+    let owner = match find_owner(steps, place) {
+        Some(owner) => owner,
+        None => return ("", 0),
+    };
+    let sequence = &sequences[owner.item];
+    let row = match find_row(sequence.rows.as_slice(), place) {
+        Some(row) => row,
+        None => return ("", 0),
+    };
+    let file = text_at(units, sequence.unit, row.file);
+    if file.is_empty() {
+        ("", 0)
+    } else {
+        (file, row.line)
+    }
+}
