@@ -239,9 +239,7 @@ fn put_section(
 fn sectioned(alloc: Global) -> Result<Vec<u8>, AllocError> {
     let mut bytes = example(alloc, 2048)?;
     bytes.extend_from_slice(NAMES)?;
-    while bytes.len() < 320 {
-        bytes.push(0)?;
-    }
+    bytes.extend_from_slice(&[0; 6])?;
     put_section(&mut bytes, [0, 0], [0, 0, 0], 0)?;
     put_section(&mut bytes, [1, 1], [0x800, 176, 4], 0)?;
     put_section(&mut bytes, [1, 1], [6, 180, 8], 0)?;
@@ -260,7 +258,7 @@ fn sectioned(alloc: Global) -> Result<Vec<u8>, AllocError> {
 fn finds_sections(rt: HostRuntime) -> Result<(), Fail> {
     let bytes = sectioned(rt.alloc())?;
     let image = load(rt.alloc(), bytes.as_slice())?;
-    // The first of its name is compressed. A name that doesn't end in the table is none.
+    // The first of its name is compressed. A part of a name is none.
     assert_eq!(rt; image.section(".text"), bytes.get(180..188));
     assert_eq!(rt; image.section(".tex"), None);
     assert_eq!(rt; image.section(""), bytes.get(0..0));

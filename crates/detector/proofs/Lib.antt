@@ -1,0 +1,12 @@
+pub mod Laws
+pub mod Standing
+pub mod Events
+pub mod Raises
+pub mod Endings
+pub mod NoteLaws
+pub mod CheckLaws
+pub mod PartLaws
+pub mod AccessLaws
+pub mod FirstLaws
+pub mod HearLaws
+pub mod ToldLaws
