@@ -157,7 +157,7 @@ impl Closure {
 }
 
 fn slot_in(word: u64) -> u64 {
-    word >> 8 & 0xff
+    (word >> 8) & 0xff
 }
 
 /// Whether two cell words may race: of one era, of different slots, with a common byte, and neither
@@ -167,8 +167,8 @@ fn opposes(mine: u64, other: u64) -> bool {
         && other >> 32 == mine >> 32
         && slot_in(other) != slot_in(mine)
         && other & mine & 0xff != 0
-        && other & mine >> 30 & 1 == 0
-        && other & mine >> 31 & 1 == 0
+        && ((other & mine) >> 30) & 1 == 0
+        && ((other & mine) >> 31) & 1 == 0
 }
 
 /// A granule, and a word in one of its shadow cells.

@@ -268,7 +268,8 @@ fn a_race_under_200_frames(rt: HostRuntime) -> Result<(), Fail> {
 
 #[test]
 fn a_race_under_the_most_frames(rt: HostRuntime) -> Result<(), Fail> {
+    // The release gives the access a label that its trace still holds.
     let program =
-        "a: lui x8,0x5 w: addi x8,x8,-1 bne x8,x0,w E(write8,0) T; main: N(a) 4096*E(func_entry,260) E(write8,0) T";
-    check_depth(&rt, rt.alloc(), program, 4096, (0x10024, 0x34060))
+        "a: lui x8,0x5 w: addi x8,x8,-1 bne x8,x0,w E(write8,0) T; main: N(a) 4096*E(func_entry,260) E(release,64) E(write8,0) T";
+    check_depth(&rt, rt.alloc(), program, 4096, (0x10024, 0x34084))
 }
