@@ -1,6 +1,8 @@
 // Runs of the command over files and sinks in memory.
+mod closure;
 mod endings;
 mod plans;
+mod random;
 mod refusals;
 mod reports;
 mod threads;
@@ -34,7 +36,7 @@ struct Ports<'a> {
 }
 
 /// How many bytes each sink takes.
-const ROOM: usize = 0x10000;
+const ROOM: usize = 0x40000;
 
 /// Calls the command over the file `p`, and nothing that fails.
 fn call(alloc: Global, words: &[&str], file: &[u8]) -> Result<Answer, Fail> {

@@ -1,18 +1,14 @@
 -- How a call of the tool may end, and what it then has done.
-use Rattle.std.specs.Prelude.{◌≡◌, ◌≢◌, ◌<◌, ◌≤◌, ◌⊎◌, ℕ, ◌==◌, nat_lt, Bool, true, false, if◌then◌else◌, List, [], length, Option, Some, None, Result, Ok, Err, IfSome}
+use Rattle.std.specs.Prelude.{◌≡◌, ◌<◌, ◌≤◌, ◌⊎◌, ℕ, Bool, true, false, List, [], length, Option, Some, None, Ok, Err, IfSome}
 use Rattle.tool_ports.specs.Ports.{Rose, HasFile, Appends, AppendsPart, file_named}
 use Rattle.elf_image.specs.File.{image_of}
-use Rattle.run_record.specs.declared.finished.GuestEnd.{GuestEnd}
-use Rattle.run_record.specs.declared.finished.GuestEnd.TheVariants.{Exit, Fault, AllEnded, Budget}
-use Rattle.run_record.specs.Order.{AreOrdered}
-use Rattle.bare_machine.specs.World.{start}
-use Rattle.step_engine.specs.Run.{IsRun, IsQuiet}
-use Rattle.step_engine.specs.Faithful.{Faithful}
+use Rattle.step_engine.specs.Run.{IsRun}
 use Rattle.run_record.specs.declared.finished.Finished.{Finished}
+use Rattle.report_text.specs.Status.{status_of}
 use Rattle.tsanrun_cli.specs.declared.ended.End.{End}
 use Rattle.tsanrun_cli.specs.declared.ended.End.TheVariants.{Done, Usage, Elf, FileTooLong, ReadFault, WriteFault, NoMemory}
 use Rattle.tsanrun_cli.specs.Words.{default_limits, file_limit}
-use Rattle.tsanrun_cli.specs.Texts.{summary}
+use Rattle.tsanrun_cli.specs.Texts.{text_of}
 
 -- What a call was given, and its counts before and after.
 pub record Call : Type 0 where
@@ -31,10 +27,15 @@ pub record Names (call : Call) (bytes : List ℕ) : Type 0 where
   pub file_is : call.file ≡ Some name
   pub has : HasFile call.told name bytes
 
+-- They are within the limit, too.
+pub record NamesShort (call : Call) (bytes : List ℕ) : Type 0 where
+  pub names : Names call bytes
+  pub fits : length bytes ≤ file_limit
+
 -- why a call is refused before anything is written
 abbrev pub Refuses : Call → End → Type 0
 Refuses call (Usage fault) = call.file ≡ None
-Refuses call (Elf fault) = (bytes : List ℕ) × Names call bytes × (image_of bytes ≡ Err fault)
+Refuses call (Elf fault) = (bytes : List ℕ) × NamesShort call bytes × (image_of bytes ≡ Err fault)
 Refuses call FileTooLong = (bytes : List ℕ) × Names call bytes × IfSome call.told (λ _. file_limit < length bytes)
 Refuses call ReadFault = Rose call.reads_before call.reads_after × (call.file ≡ Some call.failed)
 Refuses call NoMemory = Unit {0}
@@ -47,27 +48,12 @@ IsCause call out_before out_after err_before err_after WriteFault = Rose out_bef
 IsCause call out_before out_after err_before err_after Done = Unit {0}
 IsCause call out_before out_after err_before err_after end = Refuses call end
 
--- What is kept is a run of the named file, and an accepted one.
+-- What is kept is a run of the named file, by the default limits and without a plan. Each of its reports stands for a race.
 pub record IsRunOf (call : Call) (f : Finished) : Type 0 where
   pub bytes : List ℕ
-  pub names : Names call bytes
+  pub file : NamesShort call bytes
   pub accepted : image_of bytes ≡ Ok bytes
   pub run : IsRun bytes default_limits [] f
-  pub faithful : Faithful bytes (start bytes default_limits.harts) f.history.entries
-  pub ordered : AreOrdered f.history.entries
-  pub quiet : IsQuiet f
-
-abbrev pub summary_of : Finished → List ℕ
-summary_of f = summary (length f.reports) f.suppressed f.equal f.last
-
-abbrev pub end_status : GuestEnd → ℕ
-end_status (Exit n) = if n == 0 then 0 else 1
-end_status (Fault k pc tid) = 9
-end_status AllEnded = 0
-end_status Budget = 8
-
-abbrev pub status_of : Finished → ℕ
-status_of f = if nat_lt 0 (length f.reports) then 66 else end_status f.last.end
 
 abbrev pub refusal_status : End → ℕ
 refusal_status Done = 0
@@ -82,14 +68,14 @@ refusal_status NoMemory = 7
 pub record IsDone (call : Call) (out_old out_new err_old err_new : Option (List ℕ)) (status : ℕ) (f : Finished) : Type 0 where
   pub run : IsRunOf call f
   pub output : Appends out_old out_new f.output
-  pub text : Appends err_old err_new (summary_of f)
+  pub text : Appends err_old err_new (text_of f)
   pub status_is : status ≡ status_of f
 
--- What a call has left whose writing failed: of some run of the named file, a part of the output and nothing else, or the output and a part of the text.
+-- What a call has left whose writing failed: of some run of the named file, a part of the output and nothing else, or the output and a part of what tells of it.
 pub record IsCutOff (call : Call) (out_old out_new err_old err_new : Option (List ℕ)) : Type 0 where
   pub finished : Finished
   pub run : IsRunOf call finished
-  pub written : (AppendsPart out_old out_new finished.output × (err_new ≡ err_old)) ⊎ (Appends out_old out_new finished.output × AppendsPart err_old err_new (summary_of finished))
+  pub written : (AppendsPart out_old out_new finished.output × (err_new ≡ err_old)) ⊎ (Appends out_old out_new finished.output × AppendsPart err_old err_new (text_of finished))
 
 -- The words are in the grammar, and the files tell an accepted executable within the limit.
 pub record IsGood (call : Call) (bytes : List ℕ) : Type 0 where

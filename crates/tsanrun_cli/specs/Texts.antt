@@ -1,30 +1,21 @@
 -- What is written.
-use Rattle.std.specs.Prelude.{ℕ, ◌+◌, ◌-◌, ◌^◌, ◌==◌, Bool, true, false, if◌then◌else◌, List, [], ◌∷◌, ◌++◌, length, codes}
-use Rattle.std.specs.Fmt.{decimal, digits, padded_integral, format_spec}
-use Rattle.run_record.specs.declared.finished.GuestEnd.{GuestEnd}
-use Rattle.run_record.specs.declared.finished.GuestEnd.TheVariants.{Exit, Fault, AllEnded, Budget}
-use Rattle.run_record.specs.declared.finished.LastState.{LastState}
+use Rattle.std.specs.Prelude.{ℕ, List, [], ◌++◌, codes}
+use Rattle.std.specs.List.{flat_map}
+use Rattle.run_record.specs.declared.finished.Finished.{Finished}
 use Rattle.elf_image.specs.declared.fault.ElfFault.{ElfFault}
 use Rattle.elf_image.specs.declared.fault.ElfFault.TheVariants as faults
+use Rattle.report_text.specs.FrameTexts.{FrameText}
+use Rattle.report_text.specs.Texts.{report_text, summary_of}
 use Rattle.tsanrun_cli.specs.declared.ended.End.{End}
 use Rattle.tsanrun_cli.specs.declared.ended.End.TheVariants.{Done, Usage, Elf, FileTooLong, ReadFault, WriteFault, NoMemory}
 
--- 16 hexadecimal digits
-abbrev pub address : ℕ → List ℕ
-address n = codes "0x" ++ padded_integral (format_spec 32 0 4 16 (2 ^ 64 - 1)) false [] (digits 16 false n)
+-- no code address has a name, a file or a line
+abbrev pub unnamed : ℕ → FrameText
+unnamed place = record { name = []; file = []; line = 0 }
 
-abbrev pub who : ℕ → List ℕ
-who tid = if tid == 0 then codes "main thread" else codes "thread T" ++ decimal tid
-
-abbrev pub end_text : GuestEnd → List ℕ
-end_text (Exit n) = codes "exit " ++ decimal n
-end_text (Fault k pc tid) = codes "fault " ++ (decimal k ++ (codes " at " ++ (address pc ++ (codes " by " ++ who tid))))
-end_text AllEnded = codes "all ended"
-end_text Budget = codes "budget spent"
-
-abbrev pub summary : ℕ → ℕ → ℕ → LastState → List ℕ
-summary reports suppressed equal last =
-    codes "tsanrun: " ++ (decimal reports ++ (codes " reports, " ++ (decimal suppressed ++ (codes " suppressed, " ++ (decimal equal ++ (codes " equal, " ++ (decimal last.threads ++ (codes " threads, " ++ (end_text last.end ++ codes "\n")))))))))
+-- what tells of a run: the text of each report, in order, and then the last line
+abbrev pub text_of : Finished → List ℕ
+text_of f = flat_map (report_text unnamed) f.reports ++ summary_of f
 
 -- the faults of an executable by number and name
 abbrev pub executable_line : ElfFault → List ℕ

@@ -1,45 +1,21 @@
-// What is written.
-ghost use Rattle.std.specs.Prelude.{◌≡◌, IfOk, string_bytes};
-ghost use Rattle.tsanrun_cli.specs.Texts as texts;
-ghost use Rattle.tsanrun_cli.specs.Ends.{summary_of};
+// The texts that tell of a run.
+ghost use Rattle.std.specs.Prelude.{◌≡◌, IfOk};
+ghost use Rattle.std.specs.List.{flat_map};
+ghost use Rattle.tsanrun_cli.specs.Texts.{text_of as told};
+ghost use Rattle.tsanrun_cli.specs.Work.{bytes_of};
 
-use run_record::{Finished, GuestEnd};
-use std::alloc::{AllocError, Global};
+use report_text::{Unnamed, summary, text_of};
+use run_record::{Finished, NoMemory};
+use std::alloc::Global;
 
-fn who(alloc: Global, tid: u32) -> Result<String, AllocError>
-    ensures { IfOk result (λ t. string_bytes t ≡ texts.who tid) }
+/// The text of each report, in order, and then the last line.
+pub fn texts_of(alloc: Global, finished: &Finished) -> Result<Vec<Vec<u8>>, NoMemory>
+    ensures { IfOk result (λ texts. flat_map bytes_of texts.items ≡ told finished.now) }
 {
-    if tid == 0 {
-        String::from_str(alloc, "main thread")
-    } else {
-        format!(in alloc; "thread T{tid}")
+    let mut texts = Vec::new(alloc);
+    for report in finished.reports.as_slice() {
+        texts.push(text_of(alloc, report, &Unnamed)?)?;
     }
-}
-
-fn end_text(alloc: Global, end: GuestEnd) -> Result<String, AllocError>
-    ensures { IfOk result (λ t. string_bytes t ≡ texts.end_text end) }
-{
-    match end {
-        GuestEnd::Exit(status) => format!(in alloc; "exit {status}"),
-        GuestEnd::Fault { fault, pc, tid } => {
-            let who = who(alloc, tid)?;
-            format!(in alloc; "fault {fault} at 0x{pc:016x} by {who}")
-        }
-        GuestEnd::AllEnded => String::from_str(alloc, "all ended"),
-        GuestEnd::Budget => String::from_str(alloc, "budget spent"),
-    }
-}
-
-/// The last line of a run.
-pub fn summary(alloc: Global, finished: &Finished) -> Result<String, AllocError>
-    ensures { IfOk result (λ t. string_bytes t ≡ summary_of finished.now) }
-{
-    let reports = finished.reports.len();
-    let suppressed = finished.suppressed;
-    let equal = finished.equal;
-    let threads = finished.last.threads;
-    let end = end_text(alloc, finished.last.end)?;
-    format!(in alloc;
-        "tsanrun: {reports} reports, {suppressed} suppressed, {equal} equal, {threads} threads, {end}\n"
-    )
+    texts.push(summary(alloc, finished)?)?;
+    Ok(texts)
 }

@@ -1,15 +1,15 @@
 // The top call.
 ghost use Rattle.std.specs.Prelude.{◌≡◌, ◌≢◌, ◌⊎◌, OnOk, OnErr, IsSomeAnd, string_bytes, ℕ, List, true};
+ghost use Rattle.std.specs.List.{flat_map};
 ghost use Rattle.tool_ports.specs.Ports.{Appends, AppendsPart, Rose, HasCause};
-ghost use Rattle.tsanrun_cli.specs.Ends.{IsCause, IsDone, IsCutOff, IsGood, is_refusal, refusal_status, status_of as done_status};
-ghost use Rattle.tsanrun_cli.specs.Work.{call_of};
+ghost use Rattle.tsanrun_cli.specs.Ends.{IsCause, IsDone, IsCutOff, IsGood, is_refusal, refusal_status};
+ghost use Rattle.tsanrun_cli.specs.Work.{call_of, bytes_of};
 ghost use Rattle.tsanrun_cli.specs.Texts.{refusal_line};
-ghost use Rattle.tsanrun_cli.specs.Ends as ends;
 
-use crate::refusals::{line_of, status_of};
+use crate::refusals::{line_of, status_of as refused};
 use crate::work::{Told, work};
 use crate::{End, Ended};
-use run_record::{Finished, GuestEnd};
+use report_text::status_of;
 use std::alloc::Global;
 use tool_ports::{Files, Sink, SinkFailed};
 
@@ -36,37 +36,28 @@ fn put_line<E: Sink>(err: &mut E, line: &str)
     }
 }
 
-fn end_status(end: GuestEnd) -> u8
-    ensures { result ≡ ends.end_status end }
+/// Puts pieces, one after another, up to the first that fails.
+fn put_all<O: Sink>(out: &mut O, pieces: &[Vec<u8>]) -> Result<(), SinkFailed>
+    ensures ok { OnOk result (Appends (O.contents out.old) (O.contents out.new) (flat_map bytes_of pieces.now)) }
+    ensures err { OnErr result (AppendsPart (O.contents out.old) (O.contents out.new) (flat_map bytes_of pieces.now)) }
+    ensures cause { HasCause (O.faults out.old) (O.faults out.new) result }
 {
-    match end {
-        GuestEnd::Exit(0) | GuestEnd::AllEnded => 0,
-        GuestEnd::Exit(_) => 1,
-        GuestEnd::Fault { .. } => 9,
-        GuestEnd::Budget => 8,
+    for piece in pieces {
+        put_some(out, piece.as_slice())?;
     }
-}
-
-fn run_status(finished: &Finished) -> u8
-    ensures { result ≡ done_status finished.now }
-{
-    if finished.reports.len() > 0 {
-        66
-    } else {
-        end_status(finished.last.end)
-    }
+    Ok(())
 }
 
 fn write<O: Sink, E: Sink>(told: &Told, out: &mut O, err: &mut E) -> Result<(), SinkFailed>
     ensures output { OnOk result (Appends (O.contents out.old) (O.contents out.new) told.now.finished.output) }
-    ensures line { OnOk result (Appends (E.contents err.old) (E.contents err.new) (string_bytes told.now.line)) }
+    ensures texts { OnOk result (Appends (E.contents err.old) (E.contents err.new) (flat_map bytes_of told.now.texts.items)) }
     ensures cause { OnErr result (Rose (O.faults out.old) (O.faults out.new) ⊎ Rose (E.faults err.old) (E.faults err.new)) }
-    ensures cut { OnErr result ((AppendsPart (O.contents out.old) (O.contents out.new) told.now.finished.output × (E.contents err.new ≡ E.contents err.old)) ⊎ (Appends (O.contents out.old) (O.contents out.new) told.now.finished.output × AppendsPart (E.contents err.old) (E.contents err.new) (string_bytes told.now.line))) }
+    ensures cut { OnErr result ((AppendsPart (O.contents out.old) (O.contents out.new) told.now.finished.output × (E.contents err.new ≡ E.contents err.old)) ⊎ (Appends (O.contents out.old) (O.contents out.new) told.now.finished.output × AppendsPart (E.contents err.old) (E.contents err.new) (flat_map bytes_of told.now.texts.items))) }
 {
     if put_some(out, told.finished.output.as_slice()).is_err() {
         return Err(SinkFailed);
     }
-    put_some(err, told.line.as_bytes())
+    put_all(err, &told.texts)
 }
 
 /// The tool's commands that wait for nobody.
@@ -82,7 +73,8 @@ pub fn tool_step<F: Files, O: Sink, E: Sink>(
     ensures cause { IsCause (call_of words.now (F.contents files.old) (F.faults files.old) (F.faults files.new) (F.failed files.new))
         (O.faults out.old) (O.faults out.new) (E.faults err.old) (E.faults err.new) result.end }
 
-    // A call that is done keeps a run of the named file and has written what tells of it.
+    // A call that is done keeps a run of the named file, each of whose reports stands for a race. The guest's output was
+    // appended to one sink, and the text of each report and the last line to the other.
     ensures done { result.end ≡ End.Done → IsSomeAnd result.kept (IsDone
         (call_of words.now (F.contents files.old) (F.faults files.old) (F.faults files.new) (F.failed files.new))
         (O.contents out.old) (O.contents out.new) (E.contents err.old) (E.contents err.new) result.status) }
@@ -109,14 +101,14 @@ pub fn tool_step<F: Files, O: Sink, E: Sink>(
         Err(end) => {
             put_line(err, line_of(end));
             Ended {
-                status: status_of(end),
+                status: refused(end),
                 end,
                 kept: None,
             }
         }
         Ok(told) => match write(&told, out, err) {
             Ok(()) => Ended {
-                status: run_status(&told.finished),
+                status: status_of(&told.finished),
                 end: End::Done,
                 kept: Some(told.finished),
             },

@@ -1,11 +1,11 @@
-// From the words to a run and the text that tells of it.
+// From the words to a run and the texts that tell of it.
 ghost use Rattle.std.specs.Prelude.{◌≡◌, ℕ, List, Option, MatchResult, map, string_bytes};
-ghost use Rattle.tsanrun_cli.specs.Ends.{Call, Refuses, IsRunOf, summary_of};
+ghost use Rattle.tsanrun_cli.specs.Ends.{Call, Refuses, IsRunOf};
 ghost use Rattle.tsanrun_cli.specs.Words as grammar;
 ghost use Rattle.tsanrun_cli.specs.Work.{HasRun, IsTold, IsElfFault, call_of};
 
 use crate::End;
-use crate::texts::summary;
+use crate::texts::texts_of;
 use crate::words::{default_limits, file_of};
 use elf_image::{ElfFault, load};
 use run_record::{Finished, Plan};
@@ -13,11 +13,11 @@ use std::alloc::Global;
 use step_engine::run_plan;
 use tool_ports::{FileFault, Files};
 
-/// A run, and its last line.
+/// A run, and the pieces of what tells of it.
 #[derive(Drop)]
 pub struct Told {
     pub finished: Finished,
-    pub line: String,
+    pub texts: Vec<Vec<u8>>,
 }
 
 const FILE_LIMIT: usize = 25_165_824;
@@ -51,8 +51,8 @@ fn run_bytes(alloc: Global, bytes: &[u8]) -> Result<Told, End>
     let Ok(finished) = run_plan(alloc, &image, &default_limits(), &Plan::new(alloc)) else {
         return Err(End::NoMemory);
     };
-    let Ok(line) = summary(alloc, &finished) else {
+    let Ok(texts) = texts_of(alloc, &finished) else {
         return Err(End::NoMemory);
     };
-    Ok(Told { finished, line })
+    Ok(Told { finished, texts })
 }

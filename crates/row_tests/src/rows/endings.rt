@@ -1,10 +1,10 @@
 // How runs end.
 use super::*;
-use run_record::Event;
+use run_record::{DeskNote, Event, Label};
 use tsanrun_cli::End;
 
 /// Faults, exits and ended threads, and what some instructions and calls do on the way.
-static ENDINGS: [Row<'static>; 18] = [
+static ENDINGS: [Row<'static>; 19] = [
     Row {
         program: "main: I",
         summary: (0, 0, 0, 1, "fault 1 at 0x0000000000010000 by main thread"),
@@ -38,6 +38,13 @@ static ENDINGS: [Row<'static>; 18] = [
     Row {
         program: "main: X(0)",
         form: Form::Plain { room: 4_194_304 },
+        summary: (0, 0, 0, 1, "exit 0"),
+        status: 0,
+        ..ROW
+    },
+    // Leaving a function on an empty stack does nothing.
+    Row {
+        program: "main: E(func_exit,0) X(0)",
         summary: (0, 0, 0, 1, "exit 0"),
         status: 0,
         ..ROW
@@ -147,14 +154,24 @@ fn the_history_is_kept(rt: HostRuntime) -> Result<(), Fail> {
     let Some(kept) = &answer.ended.kept else {
         panic!(rt; "nothing is kept");
     };
-    assert_eq!(rt; kept.history.entries.len(), 1);
-    for entry in kept.history.entries.as_slice() {
-        assert_eq!(rt; entry.stamp, 1);
-        assert_eq!(rt; entry.steps, 3);
-        assert_eq!(rt;
-            entry.events.as_slice(),
-            [Event::Begin, Event::End].as_slice()
-        );
-    }
+    let [attached, made] = kept.history.entries.as_slice() else {
+        panic!(rt; "there aren't two entries");
+    };
+    let label = Label {
+        sid: 0,
+        epoch: 1,
+        era: 0,
+    };
+    assert_eq!(rt; attached.note, DeskNote::Attach(label));
+    assert_eq!(rt; attached.stamp, 1);
+    assert_eq!(rt; attached.steps, 0);
+    assert!(rt; attached.events.is_empty());
+    assert_eq!(rt; made.note, DeskNote::Nothing);
+    assert_eq!(rt; made.stamp, 2);
+    assert_eq!(rt; made.steps, 3);
+    assert_eq!(rt;
+        made.events.as_slice(),
+        [Event::Begin, Event::End].as_slice()
+    );
     Ok(())
 }

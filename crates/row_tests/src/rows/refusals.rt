@@ -1,4 +1,5 @@
 // Calls that are refused, and calls whose files or sinks fail.
+use super::reports::{RACING_REPORT, RACING_TEXT};
 use super::*;
 
 const STEP: [&str; 2] = ["step", "p"];
@@ -128,6 +129,32 @@ fn failed_puts_end_a_run(rt: HostRuntime) -> Result<(), Fail> {
         };
         let answer = call_over(alloc, &STEP, &ports)?;
         check(&rt, alloc, &answer, b"", told, 6)?;
+    }
+    Ok(())
+}
+
+/// The same of a run with a report, whose text is the first put and whose last line is the second.
+static CUT_REPORTS: [([(u32, u32); 1], &str); 4] = [
+    ([(1, 0)], ""),
+    ([(1, 9)], "========="),
+    ([(2, 0)], RACING_REPORT),
+    ([(2, 1000)], RACING_TEXT),
+];
+
+#[test]
+fn failed_puts_end_a_run_with_reports(rt: HostRuntime) -> Result<(), Fail> {
+    let alloc = rt.alloc();
+    let file = racing_file(alloc)?;
+    for (failing_puts, told) in CUT_REPORTS.iter() {
+        let ports = Ports {
+            file: &file,
+            rules: "",
+            failing_reads: &[],
+            failing_puts,
+        };
+        let answer = call_over(alloc, &STEP, &ports)?;
+        check(&rt, alloc, &answer, b"", told, 6)?;
+        assert!(rt; answer.ended.kept.is_none());
     }
     Ok(())
 }

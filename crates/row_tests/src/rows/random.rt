@@ -1,0 +1,163 @@
+// Random small programs under small limits, whose reports are compared with a plain closure.
+ghost use Rattle.std.specs.Prelude.{◌<◌};
+
+use super::closure::check_races;
+use super::plans::run;
+use super::*;
+use run_record::{Limits, Turn};
+
+/// Numbers by a linear congruence, of which the upper bits are taken.
+#[derive(Drop)]
+struct Draws {
+    state: u32,
+}
+
+impl Draws {
+    fn next(&mut self) -> u32 {
+        self.state = self.state.wrapping_mul(1_103_515_245).wrapping_add(12_345) & 0x7fff_ffff;
+        self.state >> 16
+    }
+
+    /// A number below the end.
+    fn below(&mut self, end: u32) -> u32
+        requires { 0 < end }
+        ensures { result < end }
+    {
+        self.next() % end
+    }
+}
+
+static ACCESSES: [&str; 12] = [
+    "read1",
+    "read4",
+    "read8",
+    "read16",
+    "write1",
+    "write2",
+    "write4",
+    "write8",
+    "write16",
+    "unaligned_read8",
+    "unaligned_write4",
+    "unaligned_write8",
+];
+
+/// An announced access of some of 32 bytes.
+fn add_access(text: &mut String, draws: &mut Draws) -> Result<(), AllocError> {
+    let name = ACCESSES[draws.below(12) as usize];
+    let offset = draws.below(16);
+    write!(text, " E({name},{offset})")
+}
+
+static ATOMICS: [&str; 4] = ["store", "exchange", "fetch_add", "fetch_xor"];
+
+fn add_atomic(text: &mut String, draws: &mut Draws) -> Result<(), AllocError> {
+    let offset = 8 * draws.below(3);
+    let order = draws.below(6);
+    if draws.below(3) == 0 {
+        return write!(text, " E(atomic64_load,{offset},{order})");
+    }
+    let name = ATOMICS[draws.below(4) as usize];
+    write!(text, " E(atomic64_{name},{offset},1,{order})")
+}
+
+static CALLS: [&str; 9] = [
+    "acquire,64",
+    "release,64",
+    "post_lock,72",
+    "pre_unlock,72",
+    "post_lock,72,8",
+    "pre_unlock,72,8",
+    "destroy,64",
+    "func_entry,260",
+    "func_exit,0",
+];
+
+fn add_operation(text: &mut String, draws: &mut Draws) -> Result<(), AllocError> {
+    match draws.below(12) {
+        0..=4 => add_access(text, draws),
+        5..=6 => add_atomic(text, draws),
+        7 => {
+            let thread = draws.below(5);
+            write!(text, " J({thread})")
+        }
+        8 => {
+            let offset = draws.below(16);
+            let size = draws.below(20);
+            write!(text, " E(write_range,{offset},{size})")
+        }
+        _ => {
+            let name = CALLS[draws.below(9) as usize];
+            write!(text, " E({name})")
+        }
+    }
+}
+
+fn add_operations(text: &mut String, draws: &mut Draws, most: u32) -> Result<(), AllocError>
+    requires { 0 < most }
+{
+    for _ in 0..draws.below(most) {
+        add_operation(text, draws)?;
+    }
+    Ok(())
+}
+
+/// A main thread that makes up to four others, and what these do.
+fn program(alloc: Global, draws: &mut Draws) -> Result<String, AllocError> {
+    let mut text = String::from_str(alloc, "main: N(t1)")?;
+    for created in ["N(t2)", "N(t3)", "N(t1)"].iter() {
+        add_operations(&mut text, draws, 4)?;
+        if draws.below(3) > 0 {
+            write!(text, " {created}")?;
+        }
+    }
+    add_operations(&mut text, draws, 6)?;
+    text.push_str(" T;")?;
+    for label in ["t1", "t2", "t3"].iter() {
+        write!(text, " {label}:")?;
+        add_operations(&mut text, draws, 9)?;
+        text.push_str(" T;")?;
+    }
+    Ok(text)
+}
+
+fn limits(draws: &mut Draws) -> Limits {
+    let harts = 2 + draws.below(3);
+    Limits {
+        harts,
+        slots: harts + draws.below(2),
+        epochs: 2,
+        steps: 20_000,
+        quantum: 1 + draws.below(7),
+        parts: 2,
+        part_words: 64,
+    }
+}
+
+fn turns(alloc: Global, draws: &mut Draws) -> Result<Vec<Turn>, AllocError> {
+    let mut turns = Vec::new(alloc);
+    for _ in 0..draws.below(12) {
+        turns.push(Turn {
+            tid: draws.below(5),
+            steps: 1 + draws.below(40),
+        })?;
+    }
+    Ok(turns)
+}
+
+#[test]
+fn reports_are_those_of_a_plain_closure(rt: HostRuntime) -> Result<(), Fail> {
+    let alloc = rt.alloc();
+    let mut draws = Draws { state: 1 };
+    let mut races = 0usize;
+    for _ in 0..300 {
+        let text = program(alloc, &mut draws)?;
+        let limits = limits(&mut draws);
+        let turns = turns(alloc, &mut draws)?;
+        let finished = run(&rt, alloc, text.as_str(), limits, &turns)?;
+        let found = check_races(&rt, alloc, &finished, text.as_str())?;
+        races = races.saturating_add(found);
+    }
+    assert!(rt; races > 1_000);
+    Ok(())
+}
