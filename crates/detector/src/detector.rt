@@ -2,7 +2,7 @@
 ghost use Rattle.std.specs.Prelude.{◌≡◌, ◌<◌, ◌≤◌, ◌-◌, ◌^◌, [], None, true, ◌*◌, replicate, length, slice_index, IsSomeAnd, IfSome, IfNone, IfOk, OnOk};
 ghost use Rattle.elf_image.specs.File.{granules_of};
 ghost use Rattle.slot_desk.specs.Desks.{thread_of, held_of};
-ghost use Rattle.slot_desk.specs.Steps.{AreDeskLimits};
+ghost use Rattle.slot_desk.specs.Steps.{AreDeskLimits, new_desk};
 ghost use Rattle.race_core.specs.Watched.{AreWatcherLimits};
 ghost use Rattle.detector.specs.Detected.{watcher_of, after_resume, after_room, after_leave, after_era, FrontIsFree, Takes};
 ghost use Rattle.detector.specs.Stands.{Stands};
@@ -58,7 +58,8 @@ impl Detector {
     pub fn new(alloc: Global, image: &Image<'_>, limits: &Limits) -> Result<Detector, NoMemory>
         requires desk { AreDeskLimits limits.now }
         requires watcher { AreWatcherLimits limits.now }
-        ensures { IfOk result (λ d. Stands (granules_of image.now) limits.now 0 None [] d) }
+        ensures stands { IfOk result (λ d. Stands (granules_of image.now) limits.now 0 None [] d) }
+        ensures first { IfOk result (λ d. d.desk ≡ new_desk limits.now) }
     {
         let main = Watcher::new(alloc, 0, limits)?;
         let mut watchers = Vec::new(alloc);

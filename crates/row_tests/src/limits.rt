@@ -1,6 +1,6 @@
 // Limits that are in their ranges.
 ghost use Rattle.std.specs.Prelude.{IfSome, ◌≡◌};
-ghost use Rattle.step_engine.specs.Run.{AreLimits};
+ghost use Rattle.thread_turns.specs.Ranges.{AreLimits};
 
 use run_record::Limits;
 

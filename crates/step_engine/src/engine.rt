@@ -1,34 +1,36 @@
 // The rounds of a run.
-ghost use Rattle.std.specs.Prelude.{true, ◌≡◌, ◌<◌, ◌≤◌, ◌+◌, IfOk, OnOk, IfSome, List, length, map};
-ghost use Rattle.std.specs.Option.{option_map};
+ghost use Rattle.std.specs.Prelude.{true, ◌≡◌, ◌<◌, ◌≤◌, ◌+◌, IfOk, OnOk, IfSome, List, length, drop, option_map};
 ghost use Rattle.run_record.specs.declared.plan.Turn.{Turn};
-ghost use Rattle.step_engine.specs.declared.engine.Due as chosen;
-ghost use Rattle.step_engine.specs.Rounds as rounds;
-ghost use Rattle.step_engine.specs.Progress.{progress, due_of, CanRound, MakesRound, IsBounded, MakesEntry};
-ghost use Rattle.step_engine.specs.Run.{IsRun, IsQuiet};
-ghost use Rattle.step_engine.specs.Faithful.{Faithful};
-ghost use Rattle.run_record.specs.Order.{AreOrdered};
-ghost use Rattle.bare_machine.specs.World.{start, lives, HasMemory};
+ghost use Rattle.bare_machine.specs.World.{lives};
+ghost use Rattle.run_laws.specs.Faithful.{OneByOne};
+ghost use Rattle.run_laws.specs.Rounds as rounds;
+ghost use Rattle.machine_laws.specs.Machine.{bare_of};
+ghost use Rattle.thread_turns.specs.Ranges.{AreLimits};
+ghost use Rattle.step_engine.specs.Live.{live_of};
+ghost use Rattle.step_engine.specs.Progress.{progress, due_of, limits_of, CanRound, MakesTurns, MakesRound, IsReady};
+ghost use Rattle.step_engine.specs.Run.{IsRun};
 
-use crate::part::run_part;
 use crate::turns::{due_turn, end_in, next_live};
-use bare_machine::Machine;
 use elf_image::Image;
+use report_text::Reporter;
 use run_record::{
-    Bytes, CheckList, DeskNote, Entries, Entry, Finished, GuestEnd, LastState, Limits, NoMemory,
-    Plan, Record, Reports, Turn,
+    Bytes, Entries, Finished, GuestEnd, LastState, Limits, NoMemory, Plan, Record, Turn,
 };
 use std::alloc::Global;
+use thread_turns::{TurnEnd, WatchedMachine};
 
 /// How far a run is.
 #[derive(Drop)]
 struct Engine {
-    machine: Machine,
+    watched: WatchedMachine,
     entries: Entries,
     turn: usize,
     last: Option<u32>,
     round: u32,
+    // The era of the last round.
+    last_era: u32,
     remaining: u32,
+    reporter: Reporter,
 }
 
 /// The next round: whose it is, how many instructions it gives, and where the plan goes on.
@@ -41,28 +43,31 @@ struct Due {
 
 impl Engine {
     fn new(alloc: Global, image: &Image<'_>, limits: &Limits) -> Result<Engine, NoMemory>
-        ensures start { IfOk result (λ e. (plan : List Turn) → progress e plan ≡ rounds.at_start image.now limits.now plan) }
+        requires { AreLimits limits.now }
+        ensures start { IfOk result (λ e. (plan : List Turn) → progress e plan ≡ rounds.at_start limits.now plan) }
         ensures turn { IfOk result (λ e. e.turn ≡ 0) }
-        ensures bound { limits.now.steps ≤ 8000000 → IfOk result IsBounded }
-        ensures memory { IfOk result (λ e. HasMemory image.now e.machine) }
+        ensures ready { IfOk result (IsReady image.now limits.now) }
     {
         Ok(Engine {
-            machine: Machine::new(alloc, image, limits.harts)?,
+            watched: WatchedMachine::new(alloc, image, limits)?,
             entries: Entries::new(alloc),
             turn: 0,
             last: None,
             round: 0,
+            last_era: 0,
             remaining: limits.steps,
+            reporter: Reporter::new(alloc)?,
         })
     }
 
     fn due(&self, limits: &Limits, plan: &[Turn]) -> Option<Due>
         requires { self.now.turn ≤ length plan.now }
-        ensures due { rounds.due limits.now (progress self.now plan.now) ≡ option_map (λ (d : chosen.Due). due_of d plan.now) result }
+        ensures due { rounds.due_turn limits.now (live_of self.now.watched.machine) self.now.last self.now.remaining (rounds.from_live (lives self.now.watched.machine) (drop self.now.turn plan.now)) ≡ option_map due_of result }
         ensures can { IfSome result (CanRound self.now) }
         ensures turn { IfSome result (λ d. d.turn ≤ length plan.now) }
+        ensures rest { IfSome result (λ d. drop d.turn plan.now ≡ drop 1 (rounds.from_live (lives self.now.watched.machine) (drop self.now.turn plan.now))) }
     {
-        let at = due_turn(&self.machine, plan, self.turn);
+        let at = due_turn(&self.watched.machine, plan, self.turn);
         if at < plan.len() {
             let turn = plan[at];
             return Some(Due {
@@ -71,7 +76,7 @@ impl Engine {
                 turn: at + 1,
             });
         }
-        let tid = next_live(&self.machine, self.last)?;
+        let tid = next_live(&self.watched.machine, self.last)?;
         Some(Due {
             tid,
             given: limits.quantum.min(self.remaining),
@@ -79,51 +84,53 @@ impl Engine {
         })
     }
 
-    // One entry of a thread, of at most so many instructions.
-    fn entry(
-        &mut self,
-        alloc: Global,
-        image: &Image<'_>,
-        tid: u32,
-        most: u32,
-    ) -> Result<u32, NoMemory>
-        requires lives { lives self.old.machine tid ≡ true }
-        requires some { 0 < most }
-        requires room { length self.old.entries < 8000000 }
-        requires memory { HasMemory image.now self.old.machine }
-        ensures memory { OnOk result (HasMemory image.now self.new.machine) }
-        ensures made { IfOk result (MakesEntry image.now self.old self.new tid most) }
+    // The instructions of a round: turns of its thread, until it made as many as given, ended or was starved.
+    // It counts as starved only where it made fewer than given.
+    fn turns(&mut self, alloc: Global, image: &Image<'_>, due: Due) -> Result<TurnEnd, NoMemory>
+        requires can { CanRound self.old due }
+        requires some { 0 < due.given }
+        requires ready { IsReady image.now (limits_of self.old) self.old }
+        ensures { IfOk result (MakesTurns image.now (limits_of self.old) self.old self.new due) }
     {
-        let (steps, events) = run_part(alloc, image, &mut self.machine, tid, most)?;
-        self.entries.push(Entry {
-            round: self.round,
-            era: 0,
-            stamp: self.entries.len() as u64 + 1,
-            tid,
-            steps,
-            note: DeskNote::Nothing,
-            events,
-            checks: CheckList::new(alloc),
-        })?;
-        Ok(steps)
+        let mut made = 0;
+        let mut starved = false;
+        'turns: while made < due.given && !starved && self.watched.machine.lives(due.tid) {
+            let end = self.watched.take_turn(
+                alloc,
+                image,
+                &mut self.entries,
+                self.round,
+                due.tid,
+                due.given - made,
+            )?;
+            made += end.steps;
+            starved = end.starved;
+        }
+        Ok(TurnEnd {
+            steps: made,
+            starved: starved && made < due.given,
+        })
     }
 
     fn round(&mut self, alloc: Global, image: &Image<'_>, due: Due) -> Result<(), NoMemory>
         requires can { CanRound self.old due }
         requires some { 0 < due.given }
-        requires bound { IsBounded self.old }
-        requires memory { HasMemory image.now self.old.machine }
-        ensures made { OnOk result (MakesRound image.now self.old self.new due) }
-        ensures memory { OnOk result (HasMemory image.now self.new.machine) }
+        requires ready { IsReady image.now (limits_of self.old) self.old }
+        ensures { OnOk result (MakesRound image.now (limits_of self.old) self.old self.new due) }
     {
-        let mut made = 0;
-        'entries: while made < due.given && self.machine.lives(due.tid) {
-            made += self.entry(alloc, image, due.tid, due.given - made)?;
-        }
+        image.accepted();
+        let end = self.turns(alloc, image, due)?;
+        self.watched
+            .detector
+            .tell(alloc, image, &mut self.reporter)?;
+        self.last_era = self.watched.detector.era();
         self.turn = due.turn;
         self.last = Some(due.tid);
         self.round += 1;
-        self.remaining -= made;
+        self.remaining -= end.steps;
+        if end.starved {
+            self.watched.detector.next_era();
+        }
         Ok(())
     }
 
@@ -134,15 +141,15 @@ impl Engine {
         limits: &Limits,
         plan: &[Turn],
     ) -> Result<GuestEnd, NoMemory>
-        requires reached { rounds.Reached image.now limits.now plan.now (progress self.old plan.now) }
+        requires reached { rounds.Reaches OneByOne limits.now (bare_of image.now limits.now.harts) plan.now (progress self.old plan.now) }
         requires turn { self.old.turn ≤ length plan.now }
-        requires bound { IsBounded self.old }
-        requires memory { HasMemory image.now self.old.machine }
-        ensures reached { OnOk result (rounds.Reached image.now limits.now plan.now (progress self.new plan.now)) }
-        ensures ends { IfOk result (rounds.Ends limits.now (progress self.new plan.now)) }
+        requires ready { IsReady image.now limits.now self.old }
+        ensures reached { OnOk result (rounds.Reaches OneByOne limits.now (bare_of image.now limits.now.harts) plan.now (progress self.new plan.now)) }
+        ensures ready { OnOk result (IsReady image.now limits.now self.new) }
+        ensures ends { IfOk result (rounds.Ends OneByOne limits.now (bare_of image.now limits.now.harts) (progress self.new plan.now)) }
     {
         'rounds: loop {
-            if let Some(end) = end_in(&self.machine) {
+            if let Some(end) = end_in(&self.watched.machine) {
                 return Ok(end);
             }
             let Some(due) = self.due(limits, plan) else {
@@ -156,38 +163,35 @@ impl Engine {
     }
 }
 
-/// The run of an image by a plan.
+/// The run of an image by a plan, with the reports of its races. No rule suppresses a report.
 pub fn run_plan(
     alloc: Global,
     image: &Image<'_>,
     limits: &Limits,
     plan: &Plan,
 ) -> Result<Finished, NoMemory>
-    requires { limits.now.steps ≤ 8000000 }
-    // It is a run by the plan: rounds, entries and the end.
-    ensures run { IfOk result (IsRun image.now limits.now plan.now) }
-    // Each entry's events are those of the bare machine.
-    ensures faithful { IfOk result (λ f. Faithful image.now (start image.now limits.now.harts) f.history.entries) }
-    // Entries are in strict order of their stamps.
-    ensures ordered { IfOk result (λ f. AreOrdered f.history.entries) }
-    ensures quiet { IfOk result IsQuiet }
+    requires { AreLimits limits.now }
+    ensures { IfOk result (IsRun image.now limits.now plan.now) }
 {
+    image.accepted();
     let mut engine = Engine::new(alloc, image, limits)?;
     let end = engine.run(alloc, image, limits, plan.as_slice())?;
     let last = LastState {
-        threads: engine.machine.threads(),
+        threads: engine.watched.machine.threads(),
         rounds: engine.round,
-        era: 0,
+        era: engine.last_era,
         end,
     };
+    let suppressed = engine.reporter.suppressed();
+    let equal = engine.reporter.equal();
     Ok(Finished {
         history: Record {
             entries: engine.entries,
         },
-        reports: Reports::new(alloc),
-        suppressed: 0,
-        equal: 0,
-        output: Bytes::from_vec(engine.machine.into_output()),
+        reports: engine.reporter.into_reports(),
+        suppressed,
+        equal,
+        output: Bytes::from_vec(engine.watched.machine.into_output()),
         last,
     })
 }

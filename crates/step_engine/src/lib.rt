@@ -1,13 +1,13 @@
 //! Runs of one thread at a time, by a plan of turns.
 //!
-//! It stands on the bare machine (`bare_machine`) and the types of the record. A run goes by rounds: each
-//! gives one live thread so many instructions, and gathers them in entries of which only the last
-//! instruction uses an object. The command above uses one clause: what `run_plan` gives is a run by
-//! the plan, and each of its events is the bare machine's.
+//! It stands on a machine and the detector that watches it (`thread_turns`), and on the laws of rounds
+//! (`run_laws`) and of reports (`report_laws`). A run goes by rounds: each gives one live thread so many
+//! instructions, and its reports are told at its end; where the thread was starved of a slot a new era
+//! begins. The command above uses one clause: what `run_plan` gives is a run of the file by the limits
+//! and the plan, with the reports of its history.
 #![tactic(auto)]
 
 mod engine;
-mod part;
 mod turns;
 
 pub use engine::run_plan;

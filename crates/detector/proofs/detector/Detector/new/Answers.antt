@@ -2,5 +2,5 @@ use Rattle.std.proofs.Common.{rules, refl}
 use Rattle.detector.proofs.FirstLaws.{stands_first}
 use Rattle.detector.proofs.detector.Detector.new.Goals as goal
 
-pub returns : goal.returns
-returns c = stands_first _ _ _ c.requires.watcher refl refl (search rules) (search rules) (search rules) (search rules) (search rules) (search rules)
+pub returns-clause-stands : goal.returns-clause-stands
+returns-clause-stands c = stands_first _ _ _ c.requires.watcher refl refl (search rules) (search rules) (search rules) (search rules) (search rules) (search rules)

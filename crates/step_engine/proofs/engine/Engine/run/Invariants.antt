@@ -1,16 +1,16 @@
-use Rattle.std.proofs.Common.{◌≤◌, ℕ, length}
-use Rattle.bare_machine.specs.World.{HasMemory}
-use Rattle.step_engine.specs.Rounds as rounds
-use Rattle.step_engine.specs.Progress.{progress, IsBounded}
+use Rattle.std.proofs.Common.{◌≤◌, length}
+use Rattle.run_laws.specs.Faithful.{OneByOne}
+use Rattle.run_laws.specs.Rounds as rounds
+use Rattle.machine_laws.specs.Machine.{bare_of}
+use Rattle.step_engine.specs.Progress.{progress, rounds_left, IsReady}
 use Rattle.step_engine.proofs.engine.Engine.run.Given as goal
 
 abbrev pub invariant-rounds : goal.invariant-rounds
 invariant-rounds l = record {
-  reached : rounds.Reached l.image l.limits l.plan (progress l.self l.plan);
+  reached : rounds.Reaches OneByOne l.limits (bare_of l.image l.limits.harts) l.plan (progress l.self l.plan);
   turn : l.self.turn ≤ length l.plan;
-  bound : IsBounded l.self;
-  memory : HasMemory l.image l.self.machine;
+  ready : IsReady l.image l.limits l.self;
 }
 
 abbrev pub decreases-rounds : goal.decreases-rounds
-decreases-rounds l = l.self.remaining
+decreases-rounds l = rounds_left l.self

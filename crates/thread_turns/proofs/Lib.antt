@@ -1,0 +1,6 @@
+pub mod EventLaws
+pub mod PutLaws
+pub mod InstructionLaws
+pub mod ReadyLaws
+pub mod PartLaws
+pub mod EndLaws

@@ -1,0 +1,4 @@
+pub mod Ranges
+pub mod Going
+pub mod Turned
+pub mod Follows

@@ -1,0 +1,112 @@
+-- What each part of a turn asks for and does.
+use Rattle.std.specs.Prelude.{◌≡◌, ◌<◌, ◌≤◌, ◌⊎◌, ◌+◌, ◌*◌, ◌^◌, ℕ, Bool, true, false, List, [], ◌++◌, length, fold}
+use Rattle.std.specs.List.{list_any}
+use Rattle.run_record.specs.declared.event.Event.{Event}
+use Rattle.bare_machine.specs.Preview.{needs_slot}
+use Rattle.machine_laws.specs.Threads.{Threads, threads_after, AreThreads}
+use Rattle.machine_laws.specs.Events.{AreAllowed, is_last}
+use Rattle.detector.specs.Detected.{Detected}
+use Rattle.thread_turns.specs.declared.part.Part.{Part}
+use Rattle.thread_turns.specs.declared.watched.WatchedMachine.{WatchedMachine}
+use Rattle.thread_turns.specs.Ranges.{AreLimits}
+use Rattle.thread_turns.specs.Going.{Setting, first, so_far, HasSlot, IsQuiet, Hearing, IsGoingOn}
+
+-- ---- the events of an instruction
+
+-- the thread may make the events, which the detector has room for
+pub record MayHear (s : Setting) (threads : Threads) (events : List Event) (p : Part) (d : Detected) : Type 0 where
+  pub limits_are : AreLimits s.limits
+  pub hearing : Hearing s threads p d
+  pub are_threads : AreThreads s.limits.harts threads
+  pub allowed : AreAllowed s.limits.harts threads s.tid events
+  pub slot : (events ≡ []) ⊎ HasSlot s p
+  pub room : length (so_far s p) + length events < 2 ^ 32
+
+pub record CanHearAll (file : List ℕ) (tid : ℕ) (events : List Event) (p : Part) (d : Detected) : Type 0 where
+  pub setting : Setting
+  pub file_is : setting.file ≡ file
+  pub tid_is : setting.tid ≡ tid
+  pub threads : Threads
+  pub may : MayHear setting threads events p d
+
+-- what comes of it
+pub record Heard (s : Setting) (threads : Threads) (events : List Event) (p q : Part) (d : Detected) : Type 0 where
+  pub hearing : Hearing s (fold (threads_after s.tid) threads events) q d
+  pub slot : list_any is_last events ≡ false → HasSlot s p → HasSlot s q
+  pub added : q.events ≡ p.events ++ events
+  pub attached : q.attached ≡ p.attached
+  pub steps : q.steps ≡ p.steps
+  pub used : q.used ≡ p.used
+  pub grown : length (so_far s q) ≡ length (so_far s p) + length events
+
+abbrev pub HearsAll : List ℕ → ℕ → List Event → Part → Part → Detected → Detected → Type 0
+HearsAll file tid events p q old new = (s : Setting) (threads : Threads) → s.file ≡ file → s.tid ≡ tid → MayHear s threads events p old → Heard s threads events p q new
+
+-- ---- an instruction
+
+-- The turn is going on, and more instructions fit.
+pub record IsTurnOf (file : List ℕ) (tid : ℕ) (p : Part) (w : WatchedMachine) : Type 0 where
+  pub setting : Setting
+  pub file_is : setting.file ≡ file
+  pub tid_is : setting.tid ≡ tid
+  pub going_on : IsGoingOn setting 0 p w
+  pub room : length (first setting) + 8 * (p.steps + 1) < 2 ^ 32
+
+-- the thread has a slot, or its next instruction needs none
+abbrev pub CanGo : Setting → Part → WatchedMachine → Type 0
+CanGo s p w = HasSlot s p ⊎ (IsQuiet s p w.detector × (needs_slot s.file w.machine s.tid ≡ false))
+
+-- no slot is free for the next instruction, which needs one
+pub record IsStopped (s : Setting) (p : Part) (w : WatchedMachine) : Type 0 where
+  pub quiet : IsQuiet s p w.detector
+  pub needy : needs_slot s.file w.machine s.tid ≡ true
+  pub empty : w.detector.desk.queue ≡ []
+
+-- whether the thread can go on, when it has taken a label where it had to
+pub record Readies (s : Setting) (goes : Bool) (p q : Part) (old new : WatchedMachine) : Type 0 where
+  pub machine : new.machine ≡ old.machine
+  pub steps : q.steps ≡ p.steps
+  pub used : q.used ≡ p.used
+  pub goes_on : goes ≡ true → IsGoingOn s 1 q new × CanGo s q new
+  pub stops : goes ≡ false → IsGoingOn s 0 q new × IsStopped s q new
+
+abbrev pub ReadiesAll : List ℕ → ℕ → Bool → Part → Part → WatchedMachine → WatchedMachine → Type 0
+ReadiesAll file tid goes p q old new = (s : Setting) → s.file ≡ file → s.tid ≡ tid → IsGoingOn s 0 p old → Readies s goes p q old new
+
+-- the thread can make its next instruction
+pub record IsNext (file : List ℕ) (tid : ℕ) (p : Part) (w : WatchedMachine) : Type 0 where
+  pub setting : Setting
+  pub file_is : setting.file ≡ file
+  pub tid_is : setting.tid ≡ tid
+  pub going_on : IsGoingOn setting 1 p w
+  pub can : CanGo setting p w
+  pub room : length (first setting) + 8 * (p.steps + 1) < 2 ^ 32
+
+abbrev pub MakesNext : List ℕ → ℕ → Part → Part → WatchedMachine → WatchedMachine → Type 0
+MakesNext file tid p q old new =
+    (s : Setting) → s.file ≡ file → s.tid ≡ tid → IsGoingOn s 1 p old → CanGo s p old → length (first s) + 8 * (p.steps + 1) < 2 ^ 32 →
+    IsGoingOn s 0 q new × (q.steps ≡ p.steps + 1)
+
+-- ---- all instructions of a turn
+
+-- The instructions ended: after one that uses an object, or as many as the turn gives, or with the thread, or for want of a slot.
+pub record Ends (s : Setting) (starved : Bool) (p : Part) (w : WatchedMachine) (most : ℕ) : Type 0 where
+  pub going_on : IsGoingOn s 0 p w
+  pub no_more : p.steps ≤ most
+  pub some : starved ≡ false → 1 ≤ p.steps
+  pub ended : starved ≡ false → (p.used ≡ true) ⊎ (p.steps ≡ most)
+  pub stopped : starved ≡ true → (p.used ≡ false) × IsStopped s p w
+
+-- a turn begins, for which there is room
+pub record BeginsPart (file : List ℕ) (tid most : ℕ) (p : Part) (w : WatchedMachine) : Type 0 where
+  pub setting : Setting
+  pub file_is : setting.file ≡ file
+  pub tid_is : setting.tid ≡ tid
+  pub none_yet : p.steps ≡ 0
+  pub unused : p.used ≡ false
+  pub going_on : IsGoingOn setting 0 p w
+  pub room : length (first setting) + 8 * most < 2 ^ 32
+
+abbrev pub RunsPart : List ℕ → ℕ → ℕ → Bool → Part → Part → WatchedMachine → WatchedMachine → Type 0
+RunsPart file tid most stopped p q old new =
+    (s : Setting) → s.file ≡ file → s.tid ≡ tid → p.steps ≡ 0 → p.used ≡ false → IsGoingOn s 0 p old → length (first s) + 8 * most < 2 ^ 32 → Ends s stopped q new most
