@@ -64,6 +64,7 @@ then_elsewhere limits h t a (p ∷ ps) (c ∷ cs) granule cell word z n =
   where
     other : c.granule == granule ≡ false
     other = ne_eqb c.granule granule (λ q. n.0 (sym z.0.granule ∙ q))
+
     here : (o : Option (ℕ × ℕ)) → cell_after granule cell word (record c { stored = o }) ≡ word
     here None = refl
     here (Some s) = rw other refl
@@ -80,13 +81,14 @@ within_slots : (slots place turn : ℕ) (shadow : List ℕ) (label : Label) (a :
 within_slots slots place turn shadow label a p c is few mask label_within most = record {
   cell = λ i w q. cell_below c.word c.cells c.turn i (ap length is.cells) (let z = is.turn_is in omega arith) (first_is i w (cell_for c.word c.cells c.turn) (sym is.stored ∙ q));
   slot = λ i w q. let e = word_is i w (cell_for c.word c.cells c.turn) (sym is.stored ∙ q) in
-    let s = sid-word_of p.1 label a.read a.atomic mask (omega arith) in
-    let x : sid w ≡ label.sid = ap sid (sym e ∙ is.word) ∙ s in omega arith;
+      let s = sid-word_of p.1 label a.read a.atomic mask (omega arith) in
+      let x : sid w ≡ label.sid = ap sid (sym e ∙ is.word) ∙ s in omega arith;
 }
   where
     first_is : (i w : ℕ) (o : Option ℕ) → option_map {U = ℕ × ℕ} (λ (i : ℕ). (i, c.word)) o ≡ Some (i, w) → o ≡ Some i
     first_is i w None q = absurd (cc)
     first_is i w (Some x) q = let z = ap (option_map (λ (p : ℕ × ℕ). p.0)) q in z
+
     word_is : (i w : ℕ) (o : Option ℕ) → option_map {U = ℕ × ℕ} (λ (i : ℕ). (i, c.word)) o ≡ Some (i, w) → c.word ≡ w
     word_is i w None q = absurd (cc)
     word_is i w (Some x) q = let z = ap (option_map (λ (p : ℕ × ℕ). p.1)) q in some_is z
@@ -107,8 +109,8 @@ checking_step granules limits h t place turn a label done checks shadow p c k is
           (record { label = label; labelled = labelled; granule = is.granule; word = is.word; turn = is.turn_is ∙ turn_is; four = ap length is.cells });
       stores = All-push StoresRightly checks c k.stores is.stored;
       loads = All-push (LoadsNow h) checks c k.loads (λ cell word q.
-        let f = four_words shadow p.0 cell word (ap (λ (ws : List ℕ). slice_get ws cell) (sym is.cells) ∙ q) in
-        f.1 ∙ (k.shadow_is.last p.0 cell within f.0 ∙ (then_elsewhere limits h t a done checks p.0 cell (cell_now h p.0 cell) k.zipped none ∙ ap (λ (x : ℕ). cell_now h x cell) (sym is.granule))));
+          let f = four_words shadow p.0 cell word (ap (λ (ws : List ℕ). slice_get ws cell) (sym is.cells) ∙ q) in
+          f.1 ∙ (k.shadow_is.last p.0 cell within f.0 ∙ (then_elsewhere limits h t a done checks p.0 cell (cell_now h p.0 cell) k.zipped none ∙ ap (λ (x : ℕ). cell_now h x cell) (sym is.granule))));
       shadow_is = shadow_step granules limits.slots h checks shadow c k.shadow_is (let z = is.granule in omega arith) (within_slots limits.slots place turn shadow label a p c is few mask slot slots);
     }
 
@@ -180,8 +182,14 @@ pub half_start : (file : List ℕ) (d : Detected) (t place : ℕ) (e : Event) (c
 half_start file d t place e checks left some planned_is =
     let a = some_of (access_of e) some in
     record {
-      access = a.0; is_access = a.1; done = []; parts = sym (planned_is a.0 a.1); added = []; checks_are = sym (append-nil checks);
-      of_event = All-nil (λ (c : Check). c.event ≡ place); rest = refl;
+      access = a.0;
+      is_access = a.1;
+      done = [];
+      parts = sym (planned_is a.0 a.1);
+      added = [];
+      checks_are = sym (append-nil checks);
+      of_event = All-nil (λ (c : Check). c.event ≡ place);
+      rest = refl;
       checking = λ from leaving h s. checking_start (granules_of file) d.limits h t a.0 d from leaving s;
       raced_is = refl;
     }
@@ -228,9 +236,9 @@ slots_known file old new t place e before after left raced p this_era half stand
     let P : ℕ → Type 0 = λ (w : ℕ). (w ≡ 0 → ⊥) → era w ≡ this_era → sid w < length (watcher_of old t).clock in
     let known : (i : ℕ) → i < 4 → P (shadow_at new.shadow p.0 i) = λ i l some q. (let z = k.within p.0 i within l some in omega arith) in
     All-cons P (shadow_at new.shadow p.0 0) (shadow_at new.shadow p.0 1 ∷ shadow_at new.shadow p.0 2 ∷ shadow_at new.shadow p.0 3 ∷ []) (known 0 (omega arith))
-      (All-cons P (shadow_at new.shadow p.0 1) (shadow_at new.shadow p.0 2 ∷ shadow_at new.shadow p.0 3 ∷ []) (known 1 (omega arith))
-      (All-cons P (shadow_at new.shadow p.0 2) (shadow_at new.shadow p.0 3 ∷ []) (known 2 (omega arith))
-      (All-cons P (shadow_at new.shadow p.0 3) [] (known 3 (omega arith)) (All-nil P))))
+    (All-cons P (shadow_at new.shadow p.0 1) (shadow_at new.shadow p.0 2 ∷ shadow_at new.shadow p.0 3 ∷ []) (known 1 (omega arith))
+    (All-cons P (shadow_at new.shadow p.0 2) (shadow_at new.shadow p.0 3 ∷ []) (known 2 (omega arith))
+    (All-cons P (shadow_at new.shadow p.0 3) [] (known 3 (omega arith)) (All-nil P))))
 
 -- one more part is checked
 pub half_step : (file : List ℕ) (old new after_new : Detected) (t place turn : ℕ) (e : Event) (before after : List Check) (left : List (ℕ × ℕ)) (raced found : Option Raced) (p : ℕ × ℕ) (c : Check) (label : Label) →
@@ -241,26 +249,26 @@ pub half_step : (file : List ℕ) (old new after_new : Detected) (t place turn :
 half_step file old new after_new t place turn e before after left raced found p c label half next going labelled mask turn_is is new_at found_at =
     let new_is : after_new ≡ record new { shadow = stored_in new.shadow c.granule c.stored } = new_at ∙ ap (λ (g : ℕ). record new { shadow = stored_in new.shadow g c.stored }) (sym is.granule) in
     let found_is : found ≡ option_map {U = Raced} (λ (i : ℕ). record { granule = c.granule; word = slice_index c.cells i }) (position (is_race (slice_index (watcher_of old t).clock) c.word) c.cells) = found_at ∙ ap (λ (g : ℕ). option_map {U = Raced} (λ (i : ℕ). record { granule = g; word = slice_index c.cells i }) (position (is_race (slice_index (watcher_of old t).clock) c.word) c.cells)) (sym is.granule) in
-  record {
-  access = half.access;
-  is_access = half.is_access;
-  done = half.done ++ p ∷ [];
-  parts = half.parts ∙ sym (append_assoc half.done (p ∷ []) left);
-  added = half.added ++ c ∷ [];
-  checks_are = ap (λ (cs : List Check). cs ++ c ∷ []) half.checks_are ∙ append_assoc before half.added (c ∷ []);
-  of_event = All-push (λ (c : Check). c.event ≡ place) half.added c half.of_event is.event;
-  rest = new_is ∙ (ap (λ (d : Detected). record d { shadow = stored_in new.shadow c.granule c.stored }) half.rest ∙ ap (λ (s : List ℕ). record old { shadow = s }) (sym (ap (λ (d : Detected). d.shadow) new_is)));
-  checking = λ from leaving h s.
-    let k = half.checking from leaving h s in
-    let w = s.watchers t in
-    let present = going.era ∙ s.era in
-    let step = checking_step (granules_of file) old.limits h t place turn half.access label half.done half.added new.shadow p c k is next.apart next.within (sym (w.label present) ∙ labelled) (w.slot label labelled) w.in_range.few_slots mask (turn_is ∙ ap (λ (n : ℕ). n % 4) w.trace.counted) in
-    subst (Checking (granules_of file) old.limits h t half.access (half.done ++ p ∷ []) (half.added ++ c ∷ [])) (sym (ap (λ (d : Detected). d.shadow) new_is)) step;
-  raced_is =
-    let clock = slice_index (watcher_of old t).clock in
-    ap₂ option_or half.raced_is found_is
-    ∙ (one_more clock half.added (first_race_in clock half.added) ∙ ap raced_of (sym (next_check clock half.added c)));
-}
+    record {
+      access = half.access;
+      is_access = half.is_access;
+      done = half.done ++ p ∷ [];
+      parts = half.parts ∙ sym (append_assoc half.done (p ∷ []) left);
+      added = half.added ++ c ∷ [];
+      checks_are = ap (λ (cs : List Check). cs ++ c ∷ []) half.checks_are ∙ append_assoc before half.added (c ∷ []);
+      of_event = All-push (λ (c : Check). c.event ≡ place) half.added c half.of_event is.event;
+      rest = new_is ∙ (ap (λ (d : Detected). record d { shadow = stored_in new.shadow c.granule c.stored }) half.rest ∙ ap (λ (s : List ℕ). record old { shadow = s }) (sym (ap (λ (d : Detected). d.shadow) new_is)));
+      checking = λ from leaving h s.
+          let k = half.checking from leaving h s in
+          let w = s.watchers t in
+          let present = going.era ∙ s.era in
+          let step = checking_step (granules_of file) old.limits h t place turn half.access label half.done half.added new.shadow p c k is next.apart next.within (sym (w.label present) ∙ labelled) (w.slot label labelled) w.in_range.few_slots mask (turn_is ∙ ap (λ (n : ℕ). n % 4) w.trace.counted) in
+          subst (Checking (granules_of file) old.limits h t half.access (half.done ++ p ∷ []) (half.added ++ c ∷ [])) (sym (ap (λ (d : Detected). d.shadow) new_is)) step;
+      raced_is =
+          let clock = slice_index (watcher_of old t).clock in
+          ap₂ option_or half.raced_is found_is
+          ∙ (one_more clock half.added (first_race_in clock half.added) ∙ ap raced_of (sym (next_check clock half.added c)));
+    }
   where
     one_more : (clock : ℕ → ℕ) (added : List Check) (o : Option (Check × ℕ)) → option_or (raced_of o) (option_map {U = Raced} (λ (i : ℕ). record { granule = c.granule; word = slice_index c.cells i }) (position (is_race clock c.word) c.cells)) ≡ raced_of (option_or o (option_map (λ (w : ℕ). (c, w)) (race_in clock c)))
     one_more clock added (Some l) = refl

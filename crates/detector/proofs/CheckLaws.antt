@@ -67,16 +67,20 @@ shadow_step granules slots h checks shadow c s within st = go c.stored refl
             let x = eqb-true c.granule granule parts.0 in
             let y = eqb-true i cell parts.1 in
             rw (← x, ← y) (get_or-set_same shadow (4 * c.granule + i) w 0 room)
+
         apart : (granule cell : ℕ) → cell < 4 → i < 4 → (c.granule == granule) && (i == cell) ≡ false → 4 * granule + cell ≡ 4 * c.granule + i → ⊥
         apart granule cell b below isnt at =
             let z = same_place granule cell c.granule i b below at in
             let yes_it = and_from (c.granule == granule) (i == cell) (eq-eqb c.granule granule (sym z.0)) (eq-eqb i cell (sym z.1)) in
             cc
+
         other : (granule cell : ℕ) → cell < 4 → i < 4 → (c.granule == granule) && (i == cell) ≡ false → shadow_at (slice_set shadow (4 * c.granule + i) w) granule cell ≡ shadow_at shadow granule cell
         other granule cell b below isnt = get_or-set_other shadow (4 * c.granule + i) (4 * granule + cell) w 0 (apart granule cell b below isnt)
+
         value : (granule cell : ℕ) → granule < granules → cell < 4 → (x : Bool) → (c.granule == granule) && (i == cell) ≡ x → i < 4 → 4 * c.granule + i < length shadow → shadow_at (slice_set shadow (4 * c.granule + i) w) granule cell ≡ cond ((c.granule == granule) && (i == cell)) w (cell_then h checks granule cell)
         value granule cell a b true at below room = same granule cell at room ∙ rw at refl
         value granule cell a b false at below room = other granule cell b below at ∙ (s.last granule cell a b ∙ rw at refl)
+
         slot : (granule cell : ℕ) → granule < granules → cell < 4 → (x : Bool) → (c.granule == granule) && (i == cell) ≡ x → i < 4 → 4 * c.granule + i < length shadow → shadow_at (slice_set shadow (4 * c.granule + i) w) granule cell ≢ 0 → sid (shadow_at (slice_set shadow (4 * c.granule + i) w) granule cell) < slots
         slot granule cell a b true at below room some = rw (same granule cell at room) (st.slot i w q)
         slot granule cell a b false at below room some = let e = other granule cell b below at in rw e (s.within granule cell a b (rw e at some))
@@ -93,6 +97,7 @@ cell_below v cells turn i long few q = go (list_any (repeats v) cells) q
     place (Some x) p e f = let z = position-Some (is_free v) cells x 0 e in let y = z.0 in omega arith
     place None (Some x) e f = let z = position-Some (is_no_stronger v) cells x 0 f in let y = z.0 in omega arith
     place None None e f = few
+
     go : (b : Bool) → cond b None (Some (unwrap_or (position (is_free v) cells) (unwrap_or (position (is_no_stronger v) cells) turn))) ≡ Some i → i < 4
     go true q = absurd (cc)
     go false q = let e : unwrap_or (position (is_free v) cells) (unwrap_or (position (is_no_stronger v) cells) turn) ≡ i = some_is _ q in

@@ -83,11 +83,11 @@ stands_create granules limits from h m d t child s going made none created =
       objects = keeps granules limits from h m d t None e s going made tt;
       object_slots = s.object_slots;
       watchers = λ u.
-        let same : watcher_of (after_create d t child) u ≡ get_or (slice_set d.watchers t w) u (new_watched u d.limits) = get_or-new d.limits child (slice_set d.watchers t w) u count in
-        subst (IsWatcherAt limits (h ++ m ∷ []) u) (sym same) (elim (watcher-set d t u w going.watched) [
-          | inl is ↦ subst (λ (x : Watched). IsWatcherAt limits (h ++ m ∷ []) u x) (sym is.1) (subst (λ (v : ℕ). IsWatcherAt limits (h ++ m ∷ []) v w) (sym is.0) (raising_watcher granules limits from h m d t e s going made none refl refl))
-          | inr other ↦ subst (λ (x : Watched). IsWatcherAt limits (h ++ m ∷ []) u x) (sym other.1) (other_watcher limits h m u (watcher_of d u) (s.watchers u) (by_one t u m.item (by_it granules limits from h m d t None e s going made) other.0) (no_era t m.item (by_it granules limits from h m d t None e s going made)))
-        ]);
+          let same : watcher_of (after_create d t child) u ≡ get_or (slice_set d.watchers t w) u (new_watched u d.limits) = get_or-new d.limits child (slice_set d.watchers t w) u count in
+          subst (IsWatcherAt limits (h ++ m ∷ []) u) (sym same) (elim (watcher-set d t u w going.watched) [
+            | inl is ↦ subst (λ (x : Watched). IsWatcherAt limits (h ++ m ∷ []) u x) (sym is.1) (subst (λ (v : ℕ). IsWatcherAt limits (h ++ m ∷ []) v w) (sym is.0) (raising_watcher granules limits from h m d t e s going made none refl refl))
+            | inr other ↦ subst (λ (x : Watched). IsWatcherAt limits (h ++ m ∷ []) u x) (sym other.1) (other_watcher limits h m u (watcher_of d u) (s.watchers u) (by_one t u m.item (by_it granules limits from h m d t None e s going made) other.0) (no_era t m.item (by_it granules limits from h m d t None e s going made)))
+          ]);
       settled = settled_raising granules limits from h m d t e s going made none refl (desks.after_create d.desk clock) (λ sid. owners (desks.is_full d.desk) sid);
       as_many = length-append (slice_set d.watchers t w) (new_watched child d.limits ∷ []) ∙ (let a = s.as_many in let b : (desks.after_create d.desk clock).made ≡ d.desk.made + 1 = rw c.room refl in omega arith);
       within = within_push limits.epochs limits.slots h m s.within (fits granules limits from h m d t None e s going made m.item made);
@@ -108,8 +108,8 @@ leaves_create granules limits from h m d t child l s going made none created ali
     let long = length-set d.watchers t w in
     let count : child ≡ length (slice_set d.watchers t w) = (let a = s.as_many in let b = c.next in omega arith) in
     is_leaving granules limits from h m d t e s going made none refl (desks.after_create d.desk (watcher_of d t).clock) (after_create d t child) l lost refl (rw c.room refl) (rw c.room refl) alive
-      (let z = length-append (slice_set d.watchers t w) (new_watched child d.limits ∷ []) in let y = going.watched in omega arith)
-      (ap (λ (x : Watched). x.clock) (get_or-new d.limits child (slice_set d.watchers t w) t count) ∙ set_clock d t w going.watched (raised_clock (watcher_of d t) l lost))
+    (let z = length-append (slice_set d.watchers t w) (new_watched child d.limits ∷ []) in let y = going.watched in omega arith)
+    (ap (λ (x : Watched). x.clock) (get_or-new d.limits child (slice_set d.watchers t w) t count) ∙ set_clock d t w going.watched (raised_clock (watcher_of d t) l lost))
 
 -- thread t ends
 pub stands_end : (granules : ℕ) (limits : Limits) (from : ℕ) (h : List Moment) (m : Moment) (d : Detected) (t : ℕ) → Stands granules limits from None h d → IsGoing d t → m.item ≡ Does t events.End → m.checks ≡ [] → Stands granules limits from None (h ++ m ∷ []) (after_end d t)
@@ -130,8 +130,8 @@ stands_end granules limits from h m d t s going made none =
     let held = labelled_holds limits.epochs limits.slots (labels_now limits.epochs h) (clocks_now limits.epochs h) (queue_now limits.epochs limits.slots h) d.desk t going.label.sid s.desk.desk slot.0 in
     let after_is : desks.after_end d.desk t clock ≡ desks.ended d.desk t going.label.sid (slice_index clock going.label.sid) clock = rw held.1.1 refl in
     stands_thread granules limits from h m d t None None (desks.after_end d.desk t clock) d.objects (unlabelled (watcher_of d t)) s (by_it granules limits from h m d t None e s going made) none going.watched (fits granules limits from h m d t None e s going made m.item made)
-      desk (ap (λ (x : DeskContents). x.made) after_is) (keeps granules limits from h m d t None e s going made tt) refl (end_watcher limits h m t (watcher_of d t) (s.watchers t) made)
-      (subst (λ (x : DeskContents). AreSettled None (labels_now limits.epochs (h ++ m ∷ [])) x) (sym after_is) (settled slot.0 held.0))
+    desk (ap (λ (x : DeskContents). x.made) after_is) (keeps granules limits from h m d t None e s going made tt) refl (end_watcher limits h m t (watcher_of d t) (s.watchers t) made)
+    (subst (λ (x : DeskContents). AreSettled None (labels_now limits.epochs (h ++ m ∷ [])) x) (sym after_is) (settled slot.0 held.0))
   where
     others : (sid : ℕ) (a : Attachment) → (labels_now limits.epochs h).slot_of t ≡ Some going.label.sid → (sid ≡ going.label.sid → ⊥) → (slot_of d.desk sid).owner ≡ Some a → (None ≡ Some a.tid) ⊎ ((labels_now limits.epochs (h ++ m ∷ [])).slot_of a.tid ≡ Some sid)
     others sid a mine other owner = elim (s.settled sid a owner) [
@@ -141,6 +141,7 @@ stands_end granules limits from h m d t s going made none =
       where
         same : Some sid ≡ Some going.label.sid → sid ≡ going.label.sid
         same q = cc
+
     settled : (labels_now limits.epochs h).slot_of t ≡ Some going.label.sid → going.label.sid < limits.slots → AreSettled None (labels_now limits.epochs (h ++ m ∷ [])) (desks.ended d.desk t going.label.sid (slice_index (watcher_of d t).clock going.label.sid) (watcher_of d t).clock)
     settled mine within = at_each_set (λ (sid : ℕ) (y : SlotContents). (a : Attachment) → y.owner ≡ Some a → (None ≡ Some a.tid) ⊎ ((labels_now limits.epochs (h ++ m ∷ [])).slot_of a.tid ≡ Some sid)) d.desk.slots going.label.sid _ no_slot (let z = s.desk.desk.slots.all_slots in omega arith) (λ a q. absurd (cc)) (λ sid other a q. others sid a mine other q)
 
@@ -149,8 +150,8 @@ pub stands_destroy : (granules : ℕ) (limits : Limits) (from : ℕ) (h : List M
 stands_destroy granules limits from h m d after t addr s going made none r =
     let e : Event = events.Destroy addr in
     let keeps_them = subst (λ (k : Clocks). KeepsChannels everywhere d.era k after.objects) (sym (clocks_event granules limits from h m d t None e s going made))
-          (destroyed limits.epochs (labels_now limits.epochs h) everywhere d.era t addr (clocks_now limits.epochs h) d.objects after.objects s.objects r.ends r.objects) in
+    (destroyed limits.epochs (labels_now limits.epochs h) everywhere d.era t addr (clocks_now limits.epochs h) d.objects after.objects s.objects r.ends r.objects) in
     let stands = stands_thread granules limits from h m d t None None d.desk after.objects (watcher_of d t) s (by_it granules limits from h m d t None e s going made) none going.watched (fits granules limits from h m d t None e s going made m.item made)
-          (desk_stays granules limits from h m d t None e s going made (λ x. cc) (λ c x. cc)) refl keeps_them r.ends.slots (still_watcher limits h m t (watcher_of d t) e (s.watchers t) made refl refl refl)
-          (settled_stays granules limits from h m d t None e s going made refl refl) in
+    (desk_stays granules limits from h m d t None e s going made (λ x. cc) (λ c x. cc)) refl keeps_them r.ends.slots (still_watcher limits h m t (watcher_of d t) e (s.watchers t) made refl refl refl)
+    (settled_stays granules limits from h m d t None e s going made refl refl) in
     subst (Stands granules limits from None (h ++ m ∷ [])) (ap (λ (ws : List Watched). record d { objects = after.objects; watchers = ws }) (set-get_or d.watchers t (new_watched t d.limits)) ∙ sym r.rest) stands

@@ -86,14 +86,14 @@ module _ (granules : ℕ) (limits : Limits) (from : ℕ) (h : List Moment) (m : 
   pub still : m.checks ≡ [] → raises e ≡ 0 → is_end e ≡ false → taken_from t e ≡ None → IsElsewhere everywhere e → (e ≡ events.End → ⊥) → ((child : ℕ) → e ≡ events.Create child → ⊥) → Stands granules limits from leaving (h ++ m ∷ []) (after_note d t e)
   still none no_raise no_last alone elsewhere no_end no_create =
       stands_thread granules limits from h m d t leaving leaving d.desk d.objects (noted (watcher_of d t) e) s by_it none going.watched (fits m.item made) (desk_stays no_end no_create) refl (keeps elsewhere) refl
-        (still_watcher limits h m t (watcher_of d t) e (s.watchers t) made no_raise no_last alone) (settled_stays no_raise no_last)
+      (still_watcher limits h m t (watcher_of d t) e (s.watchers t) made no_raise no_last alone) (settled_stays no_raise no_last)
 
   -- an event that takes a clock in
   pub taking : m.checks ≡ [] → (clock : List ℕ) → raises e ≡ 0 → is_end e ≡ false → IsElsewhere everywhere e → (e ≡ events.End → ⊥) → ((child : ℕ) → e ≡ events.Create child → ⊥) → length clock ≡ limits.slots →
       IsClock clock ((clocks_now limits.epochs (h ++ m ∷ [])).thread t) → noted (with_clock (watcher_of d t) clock) e ≡ with_clock (watcher_of d t) clock → Stands granules limits from leaving (h ++ m ∷ []) (with_clock_of d t clock)
   taking none clock no_raise no_last elsewhere no_end no_create long known same =
       stands_thread granules limits from h m d t leaving leaving d.desk d.objects (with_clock (watcher_of d t) clock) s by_it none going.watched (fits m.item made) (desk_stays no_end no_create) refl (keeps elsewhere) refl
-        (subst (IsWatcherAt limits (h ++ m ∷ []) t) same (taking_watcher limits h m t (watcher_of d t) e clock (s.watchers t) made no_raise no_last present long known)) (settled_stays no_raise no_last)
+      (subst (IsWatcherAt limits (h ++ m ∷ []) t) same (taking_watcher limits h m t (watcher_of d t) e clock (s.watchers t) made no_raise no_last present long known)) (settled_stays no_raise no_last)
 
   -- what the thread knows after the event
   pub thread_event : (r : ℕ) → (clocks_now limits.epochs (h ++ m ∷ [])).thread t r ≡ max ((clocks_now limits.epochs h).thread t r) (clock_at (clocks_now limits.epochs h) (taken_from t e) r) + raised limits.epochs (labels_now limits.epochs h) t e r
@@ -136,11 +136,11 @@ stands_begin granules limits from leaving h m d t s going made none =
     let at = desk_at granules limits from h m d t leaving events.Begin s going made in
     let tells = tells_now granules limits from h m d t leaving events.Begin s going made in
     let known : (r : ℕ) → r < limits.slots → (clocks_now limits.epochs (h ++ m ∷ [])).thread t r ≡ slice_index clock r =
-        λ r l. taken granules limits from h m d t leaving events.Begin s going made refl r
-          ∙ ap (λ (c : Clocks). max ((clocks_now limits.epochs h).thread t r) (c.spot (Of (Given t)) r)) (sym k)
-          ∙ clock_begun limits.epochs limits.slots (items (h ++ m ∷ [])) (length h) d.desk t (watcher_of d t).clock ((clocks_now limits.epochs h).thread t) at going.alive (s.watchers t).slots tells r l in
+    λ r l. taken granules limits from h m d t leaving events.Begin s going made refl r
+    ∙ ap (λ (c : Clocks). max ((clocks_now limits.epochs h).thread t r) (c.spot (Of (Given t)) r)) (sym k)
+    ∙ clock_begun limits.epochs limits.slots (items (h ++ m ∷ [])) (length h) d.desk t (watcher_of d t).clock ((clocks_now limits.epochs h).thread t) at going.alive (s.watchers t).slots tells r l in
     taking granules limits from h m d t leaving events.Begin s going made none clock refl refl tt (λ x. cc) (λ c x. cc) long
-      (whole_clock limits.slots clock ((clocks_now limits.epochs (h ++ m ∷ [])).thread t) long known (beyond granules limits from h m d t leaving events.Begin s going made)) refl
+    (whole_clock limits.slots clock ((clocks_now limits.epochs (h ++ m ∷ [])).thread t) long known (beyond granules limits from h m d t leaving events.Begin s going made)) refl
 
 long_joined : (n of : ℕ) (desk : DeskContents) (clock : List ℕ) → ((tid : ℕ) (other : List ℕ) → (thread_of desk tid).told ≡ Some other → length other ≡ n) → length clock ≡ n → length (desks.clock_after_join desk of clock) ≡ n
 long_joined n of desk clock all long = go (nat_lt of desk.made) (thread_of desk of).lives
@@ -160,11 +160,11 @@ stands_join granules limits from leaving h m d t of s going made none done =
     let at = desk_at granules limits from h m d t leaving e s going made in
     let tells = tells_now granules limits from h m d t leaving e s going made in
     let known : (r : ℕ) → r < limits.slots → (clocks_now limits.epochs (h ++ m ∷ [])).thread t r ≡ slice_index clock r =
-        λ r l. taken granules limits from h m d t leaving e s going made refl r
-          ∙ ap (λ (c : Clocks). max ((clocks_now limits.epochs h).thread t r) (c.spot (Of (Ended of)) r)) (sym k)
-          ∙ clock_joined limits.epochs limits.slots (items (h ++ m ∷ [])) (length h) d.desk of (watcher_of d t).clock ((clocks_now limits.epochs h).thread t) at done (s.watchers t).slots tells r l in
+    λ r l. taken granules limits from h m d t leaving e s going made refl r
+    ∙ ap (λ (c : Clocks). max ((clocks_now limits.epochs h).thread t r) (c.spot (Of (Ended of)) r)) (sym k)
+    ∙ clock_joined limits.epochs limits.slots (items (h ++ m ∷ [])) (length h) d.desk of (watcher_of d t).clock ((clocks_now limits.epochs h).thread t) at done (s.watchers t).slots tells r l in
     taking granules limits from h m d t leaving e s going made none clock refl refl tt (λ x. cc) (λ c x. cc) long
-      (whole_clock limits.slots clock ((clocks_now limits.epochs (h ++ m ∷ [])).thread t) long known (beyond granules limits from h m d t leaving e s going made)) refl
+    (whole_clock limits.slots clock ((clocks_now limits.epochs (h ++ m ∷ [])).thread t) long known (beyond granules limits from h m d t leaving e s going made)) refl
 
 -- it takes in what was released
 pub stands_acquire : (granules : ℕ) (limits : Limits) (from : ℕ) (leaving : Option ℕ) (h : List Moment) (m : Moment) (d : Detected) (t addr : ℕ) (part : Part) → Stands granules limits from leaving h d → IsGoing d t → m.item ≡ Does t (events.Acquire addr part) → m.checks ≡ [] → Stands granules limits from leaving (h ++ m ∷ []) (after_acquire d t addr part)
@@ -176,4 +176,4 @@ stands_acquire granules limits from leaving h m d t addr part s going made none 
     let long : length clock ≡ limits.slots = length-joined mine (clock_in d.objects d.era addr part) (as_long ∙ sym (length-clock_in d.objects d.era addr part s.objects.objects)) ∙ (s.watchers t).slots in
     let known = acquired limits.epochs (labels_now limits.epochs h) everywhere d.era t addr part (clocks_now limits.epochs h) d.objects mine s.objects refl as_long (its_clock granules limits from h m d t leaving e s going made) in
     taking granules limits from h m d t leaving e s going made none clock refl refl tt (λ x. cc) (λ c x. cc) long
-      (λ r. known r ∙ ap (λ (k : Clocks). k.thread t r) (sym (clocks_event granules limits from h m d t leaving e s going made))) refl
+    (λ r. known r ∙ ap (λ (k : Clocks). k.thread t r) (sym (clocks_event granules limits from h m d t leaving e s going made))) refl

@@ -119,22 +119,22 @@ hears_access file old mid waited new t place e before after raced going all wait
     let done_is : all.done ≡ planned file a = sym (append-nil all.done) ∙ sym all.parts in
     let found = first_race_in (slice_index (watcher_of old t).clock) all.added in
     let after_is : new ≡ after_access old t a mid.shadow found =
-        new_is ∙ (ap (λ (d : Detected). after_note d t e) (waited_is a all.is_access)
-        ∙ (ap (λ (d : Detected). after_note (record d { waiting = waits_on (watcher_of d t) a raced d.waiting }) t e) all.rest
-        ∙ (ap (λ (r : Option Raced). after_note (record (record old { shadow = mid.shadow }) { waiting = waits_on (watcher_of old t) a r old.waiting }) t e) all.raced_is
-        ∙ (ap (λ (ws : List Candidate). after_note (record (record old { shadow = mid.shadow }) { waiting = ws }) t e) (sym (waits_same (watcher_of old t) a found old.waiting))
-        ∙ ap (λ (x : Event). after_note (record (record old { shadow = mid.shadow }) { waiting = waits_for (watcher_of old t) a found old.waiting }) t x) e_is)))) in
+    new_is ∙ (ap (λ (d : Detected). after_note d t e) (waited_is a all.is_access)
+    ∙ (ap (λ (d : Detected). after_note (record d { waiting = waits_on (watcher_of d t) a raced d.waiting }) t e) all.rest
+    ∙ (ap (λ (r : Option Raced). after_note (record (record old { shadow = mid.shadow }) { waiting = waits_on (watcher_of old t) a r old.waiting }) t e) all.raced_is
+    ∙ (ap (λ (ws : List Candidate). after_note (record (record old { shadow = mid.shadow }) { waiting = ws }) t e) (sym (waits_same (watcher_of old t) a found old.waiting))
+    ∙ ap (λ (x : Event). after_note (record (record old { shadow = mid.shadow }) { waiting = waits_for (watcher_of old t) a found old.waiting }) t x) e_is)))) in
     let checked : (from : ℕ) (h : List Moment) (checks : List Check) → checks ≡ all.added → Stands (granules_of file) old.limits from None h old → Checking (granules_of file) old.limits h t a (map pair_of (parts_of (granule_of file) a)) checks mid.shadow =
-        λ from h checks same s. subst (λ (done : List (ℕ × ℕ)). Checking (granules_of file) old.limits h t a done checks mid.shadow) done_is (subst (λ (cs : List Check). Checking (granules_of file) old.limits h t a all.done cs mid.shadow) (sym same) (all.checking from None h s)) in
+    λ from h checks same s. subst (λ (done : List (ℕ × ℕ)). Checking (granules_of file) old.limits h t a done checks mid.shadow) done_is (subst (λ (cs : List Check). Checking (granules_of file) old.limits h t a all.done cs mid.shadow) (sym same) (all.checking from None h s)) in
     record {
       added = all.added;
       checks_are = all.checks_are;
       of_event = all.of_event;
       right = λ from h s.
-        let m : Moment = record { entry = 0; round = 0; item = Does t (event_of a); checks = all.added } in
-        subst (λ (x : Event). AreRightNow old.limits.epochs (granule_of file) h t x all.added) (sym e_is) (right_after (granules_of file) old.limits from None h m old t a mid.shadow s going refl (granule_of file) (checked from h all.added refl s));
+          let m : Moment = record { entry = 0; round = 0; item = Does t (event_of a); checks = all.added } in
+          subst (λ (x : Event). AreRightNow old.limits.epochs (granule_of file) h t x all.added) (sym e_is) (right_after (granules_of file) old.limits from None h m old t a mid.shadow s going refl (granule_of file) (checked from h all.added refl s));
       stands = λ from h m s made none.
-        subst (Stands (granules_of file) old.limits from None (h ++ m ∷ [])) (sym after_is)
+          subst (Stands (granules_of file) old.limits from None (h ++ m ∷ [])) (sym after_is)
           (stands_access (granules_of file) old.limits from None h m old t a mid.shadow s going (made ∙ ap (Does t) e_is) (granule_of file) (checked from h m.checks none s) found (ap (first_race_in (slice_index (watcher_of old t).clock)) none) going.watched);
       spent_is = λ from h s. spent_none old.limits.epochs (label_now old.limits.epochs h t) e (ap raises e_is);
       desk = ap (λ (d : Detected). d.desk) after_is ∙ ap (λ (x : Event). desk_after old.desk t (watcher_of old t).clock x) (sym e_is);
@@ -144,9 +144,10 @@ hears_access file old mid waited new t place e before after raced going all wait
 -- what waits leaves the watchers as they were
 pub kept_watchers : (file : List ℕ) (old mid waited : Detected) (t place : ℕ) (e : Event) (before after : List Check) (raced : Option Raced) → ChecksAll file old mid t place e before after raced →
     ((a : Access) → access_of e ≡ Some a → waited ≡ record mid { waiting = waits_on (watcher_of mid t) a raced mid.waiting }) → (waited.watchers ≡ old.watchers) × (watcher_of waited t ≡ watcher_of old t)
-kept_watchers file old mid waited t place e before after raced all waited_is =
-    (ap (λ (d : Detected). d.watchers) (waited_is all.access all.is_access) ∙ ap (λ (d : Detected). d.watchers) all.rest,
-     ap (λ (d : Detected). watcher_of d t) (waited_is all.access all.is_access) ∙ ap (λ (d : Detected). watcher_of d t) all.rest)
+kept_watchers file old mid waited t place e before after raced all waited_is = (
+  ap (λ (d : Detected). d.watchers) (waited_is all.access all.is_access) ∙ ap (λ (d : Detected). d.watchers) all.rest,
+  ap (λ (d : Detected). watcher_of d t) (waited_is all.access all.is_access) ∙ ap (λ (d : Detected). watcher_of d t) all.rest,
+)
 
 -- ---- the other events
 
@@ -208,15 +209,15 @@ module _ (file : List ℕ) (old new : Detected) (t place : ℕ) (e : Event) (che
   pub hears_release : (addr : ℕ) (part : Part) (replaces : Bool) (spent : Option Label) → e ≡ events.Release addr part replaces → Releases old new t addr part replaces → spent ≡ lost_label (watcher_of old t) → Hears file old.limits old new t place e checks checks spent
   hears_release addr part replaces spent e_is releases is = renamed (events.Release addr part replaces) new spent e_is refl
       (hears_quiet file old new t place (events.Release addr part replaces) checks spent refl
-        (λ from h m s made none. subst (λ (o : Option Label). Stands (granules_of file) old.limits from (option_map (λ (l : Label). t) o) (h ++ m ∷ []) new) (sym is) (stands_release (granules_of file) old.limits from h m old new t addr part replaces s going made none releases))
-        (λ from h s. let m : Moment = record { entry = 0; round = 0; item = Does t (events.Release addr part replaces); checks = [] } in is ∙ spent_is (granules_of file) old.limits from h m old t (events.Release addr part replaces) s going refl refl refl)
-        (λ from h l s q. let m : Moment = record { entry = 0; round = 0; item = Does t (events.Release addr part replaces); checks = [] } in leaves_release (granules_of file) old.limits from h m old new t addr part replaces l s going refl refl releases (sym is ∙ q)) (ap (λ (d : Detected). d.desk) releases.rest))
+      (λ from h m s made none. subst (λ (o : Option Label). Stands (granules_of file) old.limits from (option_map (λ (l : Label). t) o) (h ++ m ∷ []) new) (sym is) (stands_release (granules_of file) old.limits from h m old new t addr part replaces s going made none releases))
+      (λ from h s. let m : Moment = record { entry = 0; round = 0; item = Does t (events.Release addr part replaces); checks = [] } in is ∙ spent_is (granules_of file) old.limits from h m old t (events.Release addr part replaces) s going refl refl refl)
+      (λ from h l s q. let m : Moment = record { entry = 0; round = 0; item = Does t (events.Release addr part replaces); checks = [] } in leaves_release (granules_of file) old.limits from h m old new t addr part replaces l s going refl refl releases (sym is ∙ q)) (ap (λ (d : Detected). d.desk) releases.rest))
 
   pub hears_create : (child : ℕ) (spent : Option Label) → e ≡ events.Create child → CanHear old t e → new ≡ after_create old t child → spent ≡ lost_label (watcher_of old t) → Hears file old.limits old new t place e checks checks spent
   hears_create child spent e_is can new_is is =
       let able = subst (CanHear old t) e_is can in
       renamed (events.Create child) (after_create old t child) spent e_is new_is
       (hears_quiet file old (after_create old t child) t place (events.Create child) checks spent refl
-        (λ from h m s made none. subst (λ (o : Option Label). Stands (granules_of file) old.limits from (option_map (λ (l : Label). t) o) (h ++ m ∷ []) (after_create old t child)) (sym is) (stands_create (granules_of file) old.limits from h m old t child s going made none able.0))
-        (λ from h s. let m : Moment = record { entry = 0; round = 0; item = Does t (events.Create child); checks = [] } in is ∙ spent_is (granules_of file) old.limits from h m old t (events.Create child) s going refl refl refl)
-        (λ from h l s q. let m : Moment = record { entry = 0; round = 0; item = Does t (events.Create child); checks = [] } in leaves_create (granules_of file) old.limits from h m old t child l s going refl refl able.0 able.1 (sym is ∙ q)) refl)
+      (λ from h m s made none. subst (λ (o : Option Label). Stands (granules_of file) old.limits from (option_map (λ (l : Label). t) o) (h ++ m ∷ []) (after_create old t child)) (sym is) (stands_create (granules_of file) old.limits from h m old t child s going made none able.0))
+      (λ from h s. let m : Moment = record { entry = 0; round = 0; item = Does t (events.Create child); checks = [] } in is ∙ spent_is (granules_of file) old.limits from h m old t (events.Create child) s going refl refl refl)
+      (λ from h l s q. let m : Moment = record { entry = 0; round = 0; item = Does t (events.Create child); checks = [] } in leaves_create (granules_of file) old.limits from h m old t child l s going refl refl able.0 able.1 (sym is ∙ q)) refl)

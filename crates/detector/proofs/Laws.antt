@@ -29,58 +29,71 @@ pub first_watcher : (limits : Limits) (h : List Moment) (t : ℕ) → AreWatcher
 first_watcher = first
 
 pub other_watcher : (limits : Limits) (h : List Moment) (m : Moment) (t : ℕ) (w : Watched) →
-        IsWatcherAt limits h t w → (IsBy t m.item → ⊥) → (m.item ≡ NewEra → ⊥) → IsWatcherAt limits (h ++ m ∷ []) t w
+    IsWatcherAt limits h t w → (IsBy t m.item → ⊥) → (m.item ≡ NewEra → ⊥) → IsWatcherAt limits (h ++ m ∷ []) t w
 other_watcher = other
 
 pub nothing_watcher : (limits : Limits) (h : List Moment) (m : Moment) (t : ℕ) (w : Watched) →
-        IsWatcherAt limits h t w → m.item ≡ Notes t Nothing → IsWatcherAt limits (h ++ m ∷ []) t w
+    IsWatcherAt limits h t w → m.item ≡ Notes t Nothing → IsWatcherAt limits (h ++ m ∷ []) t w
 nothing_watcher = nothing
 
 pub leave_watcher : (limits : Limits) (h : List Moment) (m : Moment) (t : ℕ) (w : Watched) (label : Label) →
-        IsWatcherAt limits h t w → m.item ≡ Notes t (Leave label) → IsWatcherAt limits (h ++ m ∷ []) t w
+    IsWatcherAt limits h t w → m.item ≡ Notes t (Leave label) → IsWatcherAt limits (h ++ m ∷ []) t w
 leave_watcher = leave
 
 pub room_watcher : (limits : Limits) (h : List Moment) (t : ℕ) (w : Watched) → IsWatcherAt limits h t w → IsWatcherAt limits h t (with_room w)
 room_watcher limits h t w at = record {
-  in_range = at.in_range; tid = at.tid; greatest = at.greatest; slots = at.slots; part_words = at.part_words; parts = at.parts; frames = at.frames; locks = at.locks;
+  in_range = at.in_range;
+  tid = at.tid;
+  greatest = at.greatest;
+  slots = at.slots;
+  part_words = at.part_words;
+  parts = at.parts;
+  frames = at.frames;
+  locks = at.locks;
   trace = record { parts_held = at.trace.parts_held; ends = at.trace.ends; none_yet = at.trace.none_yet; counted = at.trace.counted };
-  era = at.era; label = at.label; clock = at.clock; no_label = at.no_label; no_clock = at.no_clock; slot = at.slot; epoch = at.epoch;
+  era = at.era;
+  label = at.label;
+  clock = at.clock;
+  no_label = at.no_label;
+  no_clock = at.no_clock;
+  slot = at.slot;
+  epoch = at.epoch;
 }
 
 pub attach_watcher : (limits : Limits) (h : List Moment) (m : Moment) (t : ℕ) (w : Watched) (label : Label) (clock : List ℕ) →
-        IsWatcherAt limits h t w → m.item ≡ Notes t (Attach label) → w.era ≡ era_now limits.epochs h → label_now limits.epochs (h ++ m ∷ []) t ≡ Some label →
-        label.sid < limits.slots → 1 ≤ label.epoch → label.epoch ≤ limits.epochs →
-        length clock ≡ limits.slots → IsClock clock ((clocks_now limits.epochs (h ++ m ∷ [])).thread t) →
-        IsWatcherAt limits (h ++ m ∷ []) t (labelled (with_clock w clock) label)
+    IsWatcherAt limits h t w → m.item ≡ Notes t (Attach label) → w.era ≡ era_now limits.epochs h → label_now limits.epochs (h ++ m ∷ []) t ≡ Some label →
+    label.sid < limits.slots → 1 ≤ label.epoch → label.epoch ≤ limits.epochs →
+    length clock ≡ limits.slots → IsClock clock ((clocks_now limits.epochs (h ++ m ∷ [])).thread t) →
+    IsWatcherAt limits (h ++ m ∷ []) t (labelled (with_clock w clock) label)
 attach_watcher limits h m t w label clock at = attaches limits h m t w at label clock
 
 pub taking_watcher : (limits : Limits) (h : List Moment) (m : Moment) (t : ℕ) (w : Watched) (e : Event) (clock : List ℕ) →
-        IsWatcherAt limits h t w → m.item ≡ Does t e → raises e ≡ 0 → is_end e ≡ false → w.era ≡ era_now limits.epochs h →
-        length clock ≡ limits.slots → IsClock clock ((clocks_now limits.epochs (h ++ m ∷ [])).thread t) →
-        IsWatcherAt limits (h ++ m ∷ []) t (noted (with_clock w clock) e)
+    IsWatcherAt limits h t w → m.item ≡ Does t e → raises e ≡ 0 → is_end e ≡ false → w.era ≡ era_now limits.epochs h →
+    length clock ≡ limits.slots → IsClock clock ((clocks_now limits.epochs (h ++ m ∷ [])).thread t) →
+    IsWatcherAt limits (h ++ m ∷ []) t (noted (with_clock w clock) e)
 taking_watcher limits h m t w e clock at = taking limits h m t w at e clock
 
 pub still_watcher : (limits : Limits) (h : List Moment) (m : Moment) (t : ℕ) (w : Watched) (e : Event) →
-        IsWatcherAt limits h t w → m.item ≡ Does t e → raises e ≡ 0 → is_end e ≡ false → taken_from t e ≡ None →
-        IsWatcherAt limits (h ++ m ∷ []) t (noted w e)
+    IsWatcherAt limits h t w → m.item ≡ Does t e → raises e ≡ 0 → is_end e ≡ false → taken_from t e ≡ None →
+    IsWatcherAt limits (h ++ m ∷ []) t (noted w e)
 still_watcher limits h m t w e at = still limits h m t w at e
 
 pub raised_watcher : (limits : Limits) (h : List Moment) (m : Moment) (t : ℕ) (w : Watched) (e : Event) (label : Label) →
-        IsWatcherAt limits h t w → m.item ≡ Does t e → raises e ≡ 1 → w.era ≡ era_now limits.epochs h → w.label ≡ Some label → label.epoch < limits.epochs →
-        IsWatcherAt limits (h ++ m ∷ []) t (raised (noted w e))
+    IsWatcherAt limits h t w → m.item ≡ Does t e → raises e ≡ 1 → w.era ≡ era_now limits.epochs h → w.label ≡ Some label → label.epoch < limits.epochs →
+    IsWatcherAt limits (h ++ m ∷ []) t (raised (noted w e))
 raised_watcher limits h m t w e label at = rises limits h m t w at e label
 
 pub spent_watcher : (limits : Limits) (h : List Moment) (m : Moment) (t : ℕ) (w : Watched) (e : Event) (label : Label) →
-        IsWatcherAt limits h t w → m.item ≡ Does t e → raises e ≡ 1 → w.era ≡ era_now limits.epochs h → w.label ≡ Some label → limits.epochs ≤ label.epoch →
-        IsWatcherAt limits (h ++ m ∷ []) t (unlabelled (noted w e))
+    IsWatcherAt limits h t w → m.item ≡ Does t e → raises e ≡ 1 → w.era ≡ era_now limits.epochs h → w.label ≡ Some label → limits.epochs ≤ label.epoch →
+    IsWatcherAt limits (h ++ m ∷ []) t (unlabelled (noted w e))
 spent_watcher limits h m t w e label at = spent limits h m t w at e label
 
 pub end_watcher : (limits : Limits) (h : List Moment) (m : Moment) (t : ℕ) (w : Watched) →
-        IsWatcherAt limits h t w → m.item ≡ Does t End → IsWatcherAt limits (h ++ m ∷ []) t (unlabelled (noted w End))
+    IsWatcherAt limits h t w → m.item ≡ Does t End → IsWatcherAt limits (h ++ m ∷ []) t (unlabelled (noted w End))
 end_watcher limits h m t w at = ends limits h m t w at
 
 pub era_watcher : (limits : Limits) (h : List Moment) (m : Moment) (t : ℕ) (w : Watched) →
-        IsWatcherAt limits h t w → m.item ≡ NewEra → IsWatcherAt limits (h ++ m ∷ []) t w
+    IsWatcherAt limits h t w → m.item ≡ NewEra → IsWatcherAt limits (h ++ m ∷ []) t w
 era_watcher limits h m t w at = begins limits h m t w at
 
 pub enter_watcher : (limits : Limits) (h : List Moment) (t : ℕ) (w : Watched) → IsWatcherAt limits h t w → IsWatcherAt limits h t (in_era w (era_now limits.epochs h))
@@ -90,19 +103,29 @@ enter_watcher limits h t w at = go (w.era == era_now limits.epochs h) refl
     at_zero zero i = refl
     at_zero (suc n) zero = refl
     at_zero (suc n) (suc i) = at_zero n i
+
     later : w.era == era_now limits.epochs h ≡ false → w.era < era_now limits.epochs h
     later q = go (cases_lt w.era (era_now limits.epochs h))
       where
         go : (w.era < era_now limits.epochs h) ⊎ (era_now limits.epochs h ≤ w.era) → w.era < era_now limits.epochs h
         go (inl l) = l
         go (inr l) = let same : w.era ≡ era_now limits.epochs h = (let z = at.era in omega arith) in let p = eq-eqb w.era (era_now limits.epochs h) same in absurd (cc)
+
     go : (b : Bool) → w.era == era_now limits.epochs h ≡ b → IsWatcherAt limits h t (cond b w (record w { era = era_now limits.epochs h; label = None; clock = replicate (length w.clock) 0 }))
     go true q = at
     go false q =
         let lt = later q in
         record {
-          in_range = at.in_range; tid = at.tid; greatest = at.greatest; slots = length-replicate (length w.clock) 0 ∙ at.slots; part_words = at.part_words; parts = at.parts; frames = at.frames; locks = at.locks;
-          trace = at.trace; era = omega arith;
+          in_range = at.in_range;
+          tid = at.tid;
+          greatest = at.greatest;
+          slots = length-replicate (length w.clock) 0 ∙ at.slots;
+          part_words = at.part_words;
+          parts = at.parts;
+          frames = at.frames;
+          locks = at.locks;
+          trace = at.trace;
+          era = omega arith;
           label = λ e. sym (at.no_label lt);
           clock = λ e r. at_zero (length w.clock) r ∙ sym (at.no_clock lt r);
           no_label = λ l. absurd (omega arith);
@@ -112,7 +135,7 @@ enter_watcher limits h t w at = go (w.era == era_now limits.epochs h) refl
         }
 
 pub own_entry : (limits : Limits) (h : List Moment) (t : ℕ) (w : Watched) (label : Label) →
-        IsWatcherAt limits h t w → w.era ≡ era_now limits.epochs h → w.label ≡ Some label → slice_index w.clock label.sid ≡ label.epoch
+    IsWatcherAt limits h t w → w.era ≡ era_now limits.epochs h → w.label ≡ Some label → slice_index w.clock label.sid ≡ label.epoch
 own_entry limits h t w label at present is =
     let p = label_parts limits.epochs (items h) (length h) t label (sym (at.label present) ∙ is) in
     at.clock present label.sid ∙ (known_at limits.epochs (items h) (length h)).own t label.sid p.0 ∙ p.1
@@ -121,7 +144,7 @@ pub side_told : (limits : Limits) (h : List Moment) (t : ℕ) (w : Watched) (a :
 side_told limits h t w a at = rw (at.tid, at.frames, at.locks) refl
 
 pub within_push : (g n : ℕ) (h : List Moment) (m : Moment) →
-        IsWithin n (labels_now g h) (clocks_now g h) → AttachesWithin n m.item → IsWithin n (labels_now g (h ++ m ∷ [])) (clocks_now g (h ++ m ∷ []))
+    IsWithin n (labels_now g h) (clocks_now g h) → AttachesWithin n m.item → IsWithin n (labels_now g (h ++ m ∷ [])) (clocks_now g (h ++ m ∷ []))
 within_push = push_within
 
 pub within_first : (g n : ℕ) → IsWithin n (labels_now g []) (clocks_now g [])

@@ -52,9 +52,9 @@ module _ (granules : ℕ) (limits : Limits) (from : ℕ) (h : List Moment) (m : 
 pub stands_nothing : (granules : ℕ) (limits : Limits) (from : ℕ) (h : List Moment) (m : Moment) (d : Detected) (t : ℕ) (leaving : Option ℕ) → Stands granules limits from leaving h d → m.item ≡ Notes t Nothing → m.checks ≡ [] → t < length d.watchers → Stands granules limits from leaving (h ++ m ∷ []) d
 stands_nothing granules limits from h m d t leaving s made none watched =
     let stands = stands_thread granules limits from h m d t leaving leaving d.desk d.objects (watcher_of d t) s (by_note granules limits from h m d t leaving Nothing s made none) none watched (subst (AttachesWithin limits.slots) (sym made) tt)
-          (at_nothing limits.epochs limits.slots (items (h ++ m ∷ [])) (length h) d.desk t (desk_there granules limits from h m d t leaving Nothing s made none) (at_note granules limits from h m d t leaving Nothing s made none)) refl
-          (keeps_note granules limits from h m d t leaving Nothing s made none) refl (nothing_watcher limits h m t (watcher_of d t) (s.watchers t) made)
-          (subst (λ (l : Labels). AreSettled leaving l d.desk) (sym (labels_note granules limits from h m d t leaving Nothing s made none)) s.settled) in
+    (at_nothing limits.epochs limits.slots (items (h ++ m ∷ [])) (length h) d.desk t (desk_there granules limits from h m d t leaving Nothing s made none) (at_note granules limits from h m d t leaving Nothing s made none)) refl
+    (keeps_note granules limits from h m d t leaving Nothing s made none) refl (nothing_watcher limits h m t (watcher_of d t) (s.watchers t) made)
+    (subst (λ (l : Labels). AreSettled leaving l d.desk) (sym (labels_note granules limits from h m d t leaving Nothing s made none)) s.settled) in
     subst (Stands granules limits from leaving (h ++ m ∷ [])) (ap (λ (ws : List Watched). record d { watchers = ws }) (set-get_or d.watchers t (new_watched t d.limits))) stands
 
 -- thread t leaves the slot that it spent
@@ -66,9 +66,9 @@ stands_leave granules limits from h m d t l s made none leaves lost =
     let some = held_of-some d.desk.slots t l.sid leaves.since leaves.held in
     let after_is : desks.after_detach d.desk t ≡ record d.desk { slots = slice_set d.desk.slots l.sid (desks.spent_slot (slot_of d.desk l.sid)) } = rw leaves.held refl in
     let stands = stands_thread granules limits from h m d t (Some t) None (desks.after_detach d.desk t) d.objects (watcher_of d t) s (by_note granules limits from h m d t (Some t) note s made none) none leaves.watched (subst (AttachesWithin limits.slots) (sym made) tt)
-          desk (ap (λ (x : DeskContents). x.made) after_is)
-          (keeps_note granules limits from h m d t (Some t) note s made none) refl (leave_watcher limits h m t (watcher_of d t) l (s.watchers t) made)
-          (subst (λ (x : DeskContents). AreSettled None (labels_now limits.epochs (h ++ m ∷ [])) x) (sym after_is) (subst (λ (x : Labels). AreSettled None x (record d.desk { slots = slice_set d.desk.slots l.sid (desks.spent_slot (slot_of d.desk l.sid)) })) (sym (labels_note granules limits from h m d t (Some t) note s made none)) (settled some.0 some.1.0 some.1.1 some.1.2))) in
+    desk (ap (λ (x : DeskContents). x.made) after_is)
+    (keeps_note granules limits from h m d t (Some t) note s made none) refl (leave_watcher limits h m t (watcher_of d t) l (s.watchers t) made)
+    (subst (λ (x : DeskContents). AreSettled None (labels_now limits.epochs (h ++ m ∷ [])) x) (sym after_is) (subst (λ (x : Labels). AreSettled None x (record d.desk { slots = slice_set d.desk.slots l.sid (desks.spent_slot (slot_of d.desk l.sid)) })) (sym (labels_note granules limits from h m d t (Some t) note s made none)) (settled some.0 some.1.0 some.1.1 some.1.2))) in
     subst (Stands granules limits from None (h ++ m ∷ [])) (ap (λ (ws : List Watched). record d { desk = desks.after_detach d.desk t; watchers = ws }) (set-get_or d.watchers t (new_watched t d.limits))) stands
   where
     settled : l.sid < length d.desk.slots → (b : Attachment) → (slot_of d.desk l.sid).owner ≡ Some b → b.tid ≡ t → AreSettled None (labels_now limits.epochs h) (record d.desk { slots = slice_set d.desk.slots l.sid (desks.spent_slot (slot_of d.desk l.sid)) })
@@ -84,17 +84,20 @@ stands_leave granules limits from h m d t l s made none leaves lost =
 -- a thread without a label owns no slot
 pub unheld : (granules : ℕ) (limits : Limits) (from : ℕ) (h : List Moment) (d : Detected) (t : ℕ) → Stands granules limits from None h d → IsResting d t → held_of d.desk t ≡ None
 unheld granules limits from h d t s rests = held_from-none 0 t d.desk.slots (λ sid a owner is. elim (s.settled sid a owner) [
-      | inl gone ↦ absurd (cc)
-      | inr held ↦ differ a sid is held
-    ])
+  | inl gone ↦ absurd (cc)
+  | inr held ↦ differ a sid is held
+])
   where
     label_none : label_now limits.epochs h t ≡ None
     label_none = sym ((s.watchers t).label (rests.era ∙ s.era)) ∙ rests.unlabelled
+
     label_at : ℕ → Label
     label_at r = record { sid = r; epoch = (labels_now limits.epochs h).epoch r; era = (labels_now limits.epochs h).era }
+
     none_is : (o : Option ℕ) → option_map (λ (r : ℕ). label_at r) o ≡ None → o ≡ None
     none_is None q = refl
     none_is (Some r) q = absurd (cc)
+
     differ : (a : Attachment) (sid : ℕ) → a.tid ≡ t → (labels_now limits.epochs h).slot_of a.tid ≡ Some sid → ⊥
     differ a sid is held = let q = sym (none_is ((labels_now limits.epochs h).slot_of t) label_none) ∙ (ap (labels_now limits.epochs h).slot_of (sym is) ∙ held) in cc
 
@@ -138,26 +141,30 @@ stands_take granules limits from h m d t l rest s made none rests front epoch er
     let new_epoch : (labels_now limits.epochs (h ++ m ∷ [])).epoch l.sid ≡ l.epoch = ap (λ (n : ℕ). (labels limits.epochs h' n).epoch l.sid) after ∙ (sym (attached_epoch d.desk l.sid _ rest front label.1) ∙ sym epoch) in
     let its : label_now limits.epochs (h ++ m ∷ []) t ≡ Some l = label_is (labels_now limits.epochs (h ++ m ∷ [])) t l slot new_epoch (era_stays limits.epochs h m (no_era t m.item (by_note granules limits from h m d t None note s made none)) ∙ (sym s.era ∙ sym era)) in
     stands_thread granules limits from h m d t None None (desks.after_attach d.desk t) d.objects (labelled (with_clock w clock) l) s (by_note granules limits from h m d t None note s made none) none rests.watched fits
-      desk (rw front refl) (keeps_note granules limits from h m d t None note s made none) refl
-      (attach_watcher limits h m t w l clock (s.watchers t) made present its within (omega arith) few long known)
-      (rw front (settled slot))
+    desk (rw front refl) (keeps_note granules limits from h m d t None note s made none) refl
+    (attach_watcher limits h m t w l clock (s.watchers t) made present its within (omega arith) few long known)
+    (rw front (settled slot))
   where
     label_none : label_now limits.epochs h t ≡ None
     label_none = sym ((s.watchers t).label (rests.era ∙ s.era)) ∙ rests.unlabelled
+
     not_it : (u sid : ℕ) → (labels_now limits.epochs h).slot_of u ≡ Some sid → u ≡ t → ⊥
     not_it u sid held is = go ((labels_now limits.epochs h).slot_of t) (ap (labels_now limits.epochs h).slot_of (sym is) ∙ held) label_none
       where
         label_at : ℕ → Label
         label_at r = record { sid = r; epoch = (labels_now limits.epochs h).epoch r; era = (labels_now limits.epochs h).era }
+
         go : (o : Option ℕ) → o ≡ Some sid → option_map label_at o ≡ None → ⊥
         go None p q = cc
         go (Some r) p q = cc
+
     stays : (u : ℕ) → (u ≡ t → ⊥) → (labels_now limits.epochs (h ++ m ∷ [])).slot_of u ≡ (labels_now limits.epochs h).slot_of u
     stays u other = ap (λ (x : Labels). x.slot_of u) (labels_note granules limits from h m d t None (Attach l) s made none) ∙ go (can_attach (labels_now limits.epochs h) t l.sid)
       where
         go : (b : Bool) → (cond b (attach_labels (labels_now limits.epochs h) t l.sid) (labels_now limits.epochs h)).slot_of u ≡ (labels_now limits.epochs h).slot_of u
         go true = rw (ne_eqb u t other) refl
         go false = refl
+
     settled : (labels_now limits.epochs (h ++ m ∷ [])).slot_of t ≡ Some l.sid → AreSettled None (labels_now limits.epochs (h ++ m ∷ [])) (record d.desk { slots = slice_set d.desk.slots l.sid (desks.attached_slot t (slot_of d.desk l.sid)); queue = rest })
     settled slot = at_each_set (λ (sid : ℕ) (y : SlotContents). (a : Attachment) → y.owner ≡ Some a → (None ≡ Some a.tid) ⊎ ((labels_now limits.epochs (h ++ m ∷ [])).slot_of a.tid ≡ Some sid)) d.desk.slots l.sid (desks.attached_slot t (slot_of d.desk l.sid)) no_slot (let z = s.desk.desk.slots.all_slots in omega arith)
         (λ a q. inr (subst (λ (u : ℕ). (labels_now limits.epochs (h ++ m ∷ [])).slot_of u ≡ Some l.sid) (tid_is a q) slot))
@@ -196,27 +203,37 @@ stands_era granules limits from h m d s made none =
 -- thread t goes on in the present era
 pub stands_resume : (granules : ℕ) (limits : Limits) (from : ℕ) (leaving : Option ℕ) (h : List Moment) (d : Detected) (t : ℕ) → Stands granules limits from leaving h d → t < length d.watchers → Stands granules limits from leaving h (after_resume d t)
 stands_resume granules limits from leaving h d t s l = record {
-      limits_are = s.limits_are; era = s.era; desk = s.desk; objects = s.objects; object_slots = s.object_slots;
-      watchers = λ u. elim (watcher-set d t u (in_era (watcher_of d t) d.era) l) [
-        | inl same ↦ subst (λ (x : Watched). IsWatcherAt limits h u x) (sym same.1) (subst (λ (v : ℕ). IsWatcherAt limits h v (in_era (watcher_of d t) d.era)) (sym same.0) (subst (λ (era : ℕ). IsWatcherAt limits h t (in_era (watcher_of d t) era)) (sym s.era) (enter_watcher limits h t (watcher_of d t) (s.watchers t))))
-        | inr other ↦ subst (λ (x : Watched). IsWatcherAt limits h u x) (sym other.1) (s.watchers u)
-      ];
-      settled = s.settled;
-      as_many = length-set d.watchers t (in_era (watcher_of d t) d.era) ∙ s.as_many;
-      within = s.within; shadow = s.shadow; waiting = s.waiting;
-    }
+  limits_are = s.limits_are;
+  era = s.era;
+  desk = s.desk;
+  objects = s.objects;
+  object_slots = s.object_slots;
+  watchers = λ u. elim (watcher-set d t u (in_era (watcher_of d t) d.era) l) [
+    | inl same ↦ subst (λ (x : Watched). IsWatcherAt limits h u x) (sym same.1) (subst (λ (v : ℕ). IsWatcherAt limits h v (in_era (watcher_of d t) d.era)) (sym same.0) (subst (λ (era : ℕ). IsWatcherAt limits h t (in_era (watcher_of d t) era)) (sym s.era) (enter_watcher limits h t (watcher_of d t) (s.watchers t))))
+    | inr other ↦ subst (λ (x : Watched). IsWatcherAt limits h u x) (sym other.1) (s.watchers u)
+  ];
+  settled = s.settled;
+  as_many = length-set d.watchers t (in_era (watcher_of d t) d.era) ∙ s.as_many;
+  within = s.within;
+  shadow = s.shadow;
+  waiting = s.waiting;
+}
 
 -- room changes nothing that a history tells of
 pub stands_room : (granules : ℕ) (limits : Limits) (from : ℕ) (leaving : Option ℕ) (h : List Moment) (d : Detected) (t spare : ℕ) → Stands granules limits from leaving h d → t < length d.watchers → Stands granules limits from leaving h (after_room d t spare)
 stands_room granules limits from leaving h d t spare s l = record {
-      limits_are = s.limits_are; era = s.era; desk = s.desk;
-      objects = keeps-reserved everywhere d.era (clocks_now limits.epochs h) d.objects spare s.objects;
-      object_slots = s.object_slots;
-      watchers = λ u. elim (watcher-set d t u (with_room (watcher_of d t)) l) [
-        | inl same ↦ subst (λ (x : Watched). IsWatcherAt limits h u x) (sym same.1) (subst (λ (v : ℕ). IsWatcherAt limits h v (with_room (watcher_of d t))) (sym same.0) (room_watcher limits h t (watcher_of d t) (s.watchers t)))
-        | inr other ↦ subst (λ (x : Watched). IsWatcherAt limits h u x) (sym other.1) (s.watchers u)
-      ];
-      settled = s.settled;
-      as_many = length-set d.watchers t (with_room (watcher_of d t)) ∙ s.as_many;
-      within = s.within; shadow = s.shadow; waiting = s.waiting;
-    }
+  limits_are = s.limits_are;
+  era = s.era;
+  desk = s.desk;
+  objects = keeps-reserved everywhere d.era (clocks_now limits.epochs h) d.objects spare s.objects;
+  object_slots = s.object_slots;
+  watchers = λ u. elim (watcher-set d t u (with_room (watcher_of d t)) l) [
+    | inl same ↦ subst (λ (x : Watched). IsWatcherAt limits h u x) (sym same.1) (subst (λ (v : ℕ). IsWatcherAt limits h v (with_room (watcher_of d t))) (sym same.0) (room_watcher limits h t (watcher_of d t) (s.watchers t)))
+    | inr other ↦ subst (λ (x : Watched). IsWatcherAt limits h u x) (sym other.1) (s.watchers u)
+  ];
+  settled = s.settled;
+  as_many = length-set d.watchers t (with_room (watcher_of d t)) ∙ s.as_many;
+  within = s.within;
+  shadow = s.shadow;
+  waiting = s.waiting;
+}

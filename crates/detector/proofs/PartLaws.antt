@@ -81,8 +81,10 @@ module _ (granule_of : ℕ → Option ℕ) (a : Access) where
         where
           head_is : q ∷ pairs (suc k) n ≡ x ∷ (before ++ (p ∷ after)) → q ≡ x
           head_is e = cc
+
           tail_is : q ∷ pairs (suc k) n ≡ x ∷ (before ++ (p ∷ after)) → pairs (suc k) n ≡ before ++ (p ∷ after)
           tail_is e = cc
+
           clash : IsOfBlock granule_of (suc k) p → q ≡ x → x.0 ≡ p.0 → ⊥
           clash c h same =
               let there : granule_of (8 * k) ≡ Some p.0 = r ∙ ap (λ (z : ℕ × ℕ). Some z.0) h ∙ ap Some same in

@@ -122,6 +122,7 @@ module _ (granules : ℕ) (limits : Limits) (from : ℕ) (h : List Moment) (m : 
     where
       differ : None ≡ Some l → ⊥
       differ q = cc
+
       some_is : Some going.label ≡ Some l → going.label ≡ l
       some_is q = cc
 
@@ -140,8 +141,8 @@ stands_release granules limits from h m d after t addr part replaces s going mad
     let keeps = subst (λ (k : Clocks). KeepsChannels everywhere d.era k after.objects) (sym (clocks_event granules limits from h m d t None e s going made)) (keeps_release granules limits from h m d t addr part replaces after.objects s going made none r.puts r.objects) in
     let P : Detected → Type 0 = λ x. Stands granules limits from (option_map (λ (l : Label). t) (lost_label (watcher_of d t))) (h ++ m ∷ []) x in
     subst P (sym r.rest)
-      (stands_thread granules limits from h m d t None (option_map (λ (l : Label). t) (lost_label (watcher_of d t))) d.desk after.objects (raised_or_lost (watcher_of d t)) s (by_it granules limits from h m d t None e s going made) none going.watched (fits granules limits from h m d t None e s going made m.item made)
-        (desk_stays granules limits from h m d t None e s going made (λ x. cc) (λ c x. cc)) refl keeps r.puts.slots (raising_watcher granules limits from h m d t e s going made none refl refl) (settled_raising granules limits from h m d t e s going made none refl d.desk (λ sid. refl)))
+    (stands_thread granules limits from h m d t None (option_map (λ (l : Label). t) (lost_label (watcher_of d t))) d.desk after.objects (raised_or_lost (watcher_of d t)) s (by_it granules limits from h m d t None e s going made) none going.watched (fits granules limits from h m d t None e s going made m.item made)
+    (desk_stays granules limits from h m d t None e s going made (λ x. cc) (λ c x. cc)) refl keeps r.puts.slots (raising_watcher granules limits from h m d t e s going made none refl refl) (settled_raising granules limits from h m d t e s going made none refl d.desk (λ sid. refl)))
 
 pub set_clock : (d : Detected) (t : ℕ) (w : Watched) → t < length d.watchers → w.clock ≡ (watcher_of d t).clock → (watcher_of (with_watcher d t w) t).clock ≡ (watcher_of d t).clock
 set_clock d t w l same = ap (λ (x : Watched). x.clock) (get_or-set_same d.watchers t w (new_watched t d.limits) l) ∙ same
@@ -159,5 +160,5 @@ leaves_release granules limits from h m d after t addr part replaces l s going m
     let e : Event = events.Release addr part replaces in
     let w = raised_or_lost (watcher_of d t) in
     is_leaving granules limits from h m d t e s going made none refl d.desk after l lost (ap (λ (x : Detected). x.desk) r.rest) refl refl going.alive
-      (subst (λ (x : Detected). t < length x.watchers) (sym r.rest) (let z = length-set d.watchers t w in let y = going.watched in omega arith))
-      (ap (λ (x : Detected). (watcher_of x t).clock) r.rest ∙ set_clock d t w going.watched (raised_clock (watcher_of d t) l lost))
+    (subst (λ (x : Detected). t < length x.watchers) (sym r.rest) (let z = length-set d.watchers t w in let y = going.watched in omega arith))
+    (ap (λ (x : Detected). (watcher_of x t).clock) r.rest ∙ set_clock d t w going.watched (raised_clock (watcher_of d t) l lost))

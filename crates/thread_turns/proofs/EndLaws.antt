@@ -218,13 +218,19 @@ module _ (file : List ℕ) (limits : Limits) (from round : ℕ) (entries : List 
     where
       labels_begin : labels_now limits.epochs (so_far s no_part) ≡ labels_now limits.epochs (first s)
       labels_begin = ap (labels_now limits.epochs) begins ∙ labels-still limits.epochs (first s) m (record { item = refl; checks = refl })
+
       had : (sid : ℕ) → (labels_now limits.epochs (first s)).slot_of t ≡ Some sid → label_now limits.epochs (first s) t ≡ None → ⊥
       had sid r none = let z = sym (ap (option_map (λ (r : ℕ). record { sid = r; epoch = (labels_now limits.epochs (first s)).epoch r; era = (labels_now limits.epochs (first s)).era })) r) ∙ none in cc
   phase None q = inr (record {
-      events = refl; checks = refl; attached = refl; unspent = refl; needless = refl; era = present;
-      label = (stands_now.watchers t).label (present ∙ stands_now.era) ∙ ap (option_map (λ (r : ℕ). record { sid = r; epoch = (labels_now limits.epochs (so_far s no_part)).epoch r; era = (labels_now limits.epochs (so_far s no_part)).era })) q;
-      stands = resumes;
-    })
+    events = refl;
+    checks = refl;
+    attached = refl;
+    unspent = refl;
+    needless = refl;
+    era = present;
+    label = (stands_now.watchers t).label (present ∙ stands_now.era) ∙ ap (option_map (λ (r : ℕ). record { sid = r; epoch = (labels_now limits.epochs (so_far s no_part)).epoch r; era = (labels_now limits.epochs (so_far s no_part)).era })) q;
+    stands = resumes;
+  })
 
   pub begin_law : IsGoingOn s 0 no_part (resumed w t)
   begin_law = record {
@@ -334,9 +340,9 @@ module _ (file : List ℕ) (round tid most : ℕ) (before : List Entry) (starved
       era_stays = era_now_is at p mid ends_now.going_on;
       follows = follows_some;
       goes_on = λ q less. goes_on_end at p mid ends_now.going_on taking.goes_on followed.rounds followed.eras some (elim (ends_now.ended q) [
-          | inl used ↦ used
-          | inr all ↦ absurd (omega (arith, less, all))
-        ]);
+        | inl used ↦ used
+        | inr all ↦ absurd (omega (arith, less, all))
+      ]);
       starved = starved_some;
       grown = subst (λ (x : ℕ). length (moments_in round x (entries_now at p)) ≤ length (first at) + 7 * p.steps) (sym (era_now_is at p mid ends_now.going_on)) (longer at p mid ends_now.going_on some);
     }
@@ -402,6 +408,7 @@ may_leave file round tid most before starved p old mid taking runs spent = go p.
   where
     ends : Ends (setting_of file old.detector.limits taking.following.from round before tid old) starved p mid most
     ends = ends_now file round tid most before starved p old mid taking runs
+
     go : (o : Option Label) → p.spent ≡ o → is_some o ≡ true → MayLeave mid.detector tid
     go None q yes_is = absurd (cc)
     go (Some l) q yes_is =

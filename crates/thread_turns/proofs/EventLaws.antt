@@ -1,13 +1,11 @@
 -- One event of a turn.
-use Rattle.std.proofs.Common.{◌≡◌, ◌≢◌, ℕ, zero, suc, ◌+◌, ◌*◌, ◌<◌, ◌≤◌, ◌^◌, ◌-◌, ◌⊎◌, ◌||◌, ◌&&◌, inl, inr, ◌==◌, Bool, true, false, cond, Option, Some, None, List, [], ◌∷◌, ◌++◌, length, length-append, append_assoc, append-nil, refl, ap, ap₂, sym, subst, ◌∙◌, arith, eqb-true, eq-eqb, ne_eqb, not}
-use Rattle.std.specs.Prelude.{All, option_map, option_to_list, fold, slice_index, IsSome, if◌then◌else◌, nat_lt}
+use Rattle.std.proofs.Common.{◌≡◌, ◌≢◌, ℕ, zero, suc, ◌+◌, ◌*◌, ◌<◌, ◌≤◌, ◌^◌, ◌-◌, ◌⊎◌, ◌||◌, inl, inr, ◌==◌, Bool, true, false, Option, Some, None, List, [], ◌∷◌, ◌++◌, length, length-append, append_assoc, append-nil, refl, ap, sym, subst, ◌∙◌, arith, eqb-true, eq-eqb, ne_eqb}
+use Rattle.std.specs.Prelude.{option_map, option_to_list, fold, if◌then◌else◌}
 use Rattle.std.specs.List.{list_any, enumerate_from}
 use Rattle.std.proofs.lemmas.Bool.{cases_eq, cases_lt, le-ltb}
 use Rattle.std.proofs.lemmas.List.{get_or-set_same}
 use Rattle.std.proofs.Math.ListN.{length-set, length-map}
 use Rattle.std.proofs.Common.{get_or}
-use Rattle.std.specs.Prelude.{slice_get}
-use Rattle.std.proofs.lemmas.Option.{slice_get_within}
 use Rattle.std.proofs.lemmas.List.Sums.{fold-append}
 use Rattle.run_record.specs.declared.event.Event.{Event}
 use Rattle.run_record.specs.declared.event.Event.TheVariants as events
@@ -19,18 +17,15 @@ use Rattle.run_record.specs.declared.entry.DeskNote.TheVariants.{Nothing, Attach
 use Rattle.run_laws.specs.Moments.{Item, Does, Notes, NewEra, Past, Moment, items}
 use Rattle.run_laws.specs.Moments.{entry_moments, event_moment}
 use Rattle.run_laws.specs.Window.{TraceEvent, Traced, Labelled, is_traced}
-use Rattle.run_laws.specs.Labels.{Labels, raises, is_end, slot_after, next_labels, label_of}
-use Rattle.run_laws.specs.Stacks.{event_by, frames_after}
-use Rattle.run_laws.specs.Present.{labels_now, label_now, trace_now, frames_now, clocks_now, queue_now}
-use Rattle.run_laws.proofs.PresentLaw.{labels_now-push, trace_now-push}
-use Rattle.slot_desk.specs.Desks.{DeskContents, thread_of, held_of}
-use Rattle.slot_desk.specs.Steps as desks
-use Rattle.slot_desk.specs.declared.answers.Created.TheVariants.{Thread}
+use Rattle.run_laws.specs.Labels.{Labels, raises, slot_after, next_labels, label_of}
+use Rattle.run_laws.specs.Present.{labels_now, label_now, frames_now, clocks_now, queue_now}
+use Rattle.run_laws.proofs.PresentLaw.{labels_now-push}
+use Rattle.slot_desk.specs.Desks.{thread_of, held_of}
 use Rattle.slot_desk.proofs.HistorySteps.{labelled_holds}
-use Rattle.race_core.specs.Watched.{Watched, new_watched, with_room, CanBeNoted}
+use Rattle.race_core.specs.Watched.{new_watched, with_room}
 use Rattle.race_core.proofs.FrameLaws.{frames_none, frames_event}
-use Rattle.turn_laws.specs.Going.{AreRightFrom, HasSpent, AreRightNow, AreOfEvents, spent_by}
-use Rattle.turn_laws.specs.Turns.{Turn, main_entry, moments_before, moments_up_to, entries_before, turn_with_event}
+use Rattle.turn_laws.specs.Going.{AreRightFrom, HasSpent, AreOfEvents, spent_by}
+use Rattle.turn_laws.specs.Turns.{moments_before, entries_before}
 use Rattle.turn_laws.proofs.StepsLaw.{event_is}
 use Rattle.turn_laws.proofs.PushLaw.{right-event, spent-event}
 use Rattle.turn_laws.proofs.GroupedLaw.{grouped-push, of_events-push}
@@ -39,7 +34,7 @@ use Rattle.machine_laws.specs.Events.{AreAllowed, IsAllowed, is_last}
 use Rattle.machine_laws.specs.Agrees.{Agrees}
 use Rattle.machine_laws.proofs.ThreadLaw.{made_of, one_kept, depth_own, depth_other}
 use Rattle.machine_laws.proofs.DeskLaw.{create_answer, create_after, end_after, join_done, stays}
-use Rattle.detector.specs.Detected.{Detected, watcher_of, after_room, IsGoing, IsLeaving}
+use Rattle.detector.specs.Detected.{Detected, watcher_of, after_room, IsGoing}
 use Rattle.detector.specs.Checking.{IsStanding}
 use Rattle.detector.specs.Hears.{CanHear, Hears, desk_after}
 use Rattle.detector.specs.Stands.{Stands}
@@ -47,8 +42,7 @@ use Rattle.race_core.specs.History.{era_now}
 use Rattle.detector.proofs.Standing.{era_stays}
 use Rattle.detector.proofs.NoteLaws.{stands_room}
 use Rattle.thread_turns.specs.declared.part.Part.{Part}
-use Rattle.thread_turns.specs.Ranges.{AreLimits}
-use Rattle.thread_turns.specs.Going.{Setting, turn_of, so_far, entry_of, HasSlot, IsToLeave, Hearing}
+use Rattle.thread_turns.specs.Going.{Setting, turn_of, so_far, entry_of, HasSlot, Hearing}
 use Rattle.thread_turns.specs.Turned.{MayHear, Heard, HearsAll, CanHearAll}
 
 -- ---- threads that go on
@@ -63,9 +57,9 @@ going_of granules limits from leaving h d t sid s watched alive slot =
   where
     era_is : {x y : ℕ} {o : Option Label} {l : Label} → x ≤ y → (x < y → o ≡ None) → o ≡ Some l → x ≡ y
     era_is {x} {y} most none some = elim (cases_lt x y) [
-          | inl less ↦ absurd (let q = sym (none less) ∙ some in cc)
-          | inr more ↦ omega arith
-        ]
+      | inl less ↦ absurd (let q = sym (none less) ∙ some in cc)
+      | inr more ↦ omega arith
+    ]
 
 -- a trace has at most two events a moment
 few_traced : (g : ℕ) (h : ℕ → Item) (n t : ℕ) (item : Item) → length (Rattle.run_laws.specs.Window.traced_by g h n t item) ≤ 2
@@ -146,18 +140,21 @@ made_grows t threads _ = omega arith
 module _ (s : Setting) (threads : Threads) (e : Event) (rest : List Event) (p : Part) (d : Detected) (may : MayHear s threads (e ∷ rest) p d) where
   abbrev t : ℕ
   t = s.tid
+
   abbrev h : List Moment
   h = so_far s p
+
   abbrev g : ℕ
   g = s.limits.epochs
+
   abbrev granules : ℕ
   granules = granules_of s.file
 
   pub slot : HasSlot s p
   slot = elim may.slot [
-      | inl none ↦ absurd (cc)
-      | inr has ↦ has
-    ]
+    | inl none ↦ absurd (cc)
+    | inr has ↦ has
+  ]
 
   pub standing : Stands granules s.limits s.from None h d
   standing = subst (λ (o : Option Label). Stands granules s.limits s.from (option_map (λ (l : Label). t) o) h d) slot.unspent may.hearing.stands
@@ -188,8 +185,10 @@ module _ (s : Setting) (threads : Threads) (e : Event) (rest : List Event) (p : 
     where
       clock : List ℕ
       clock = (watcher_of (after_room d t spare) t).clock
+
       depth : length (watcher_of (after_room d t spare) t).frames ≡ threads.depth t
       depth = ap length ((roomy spare).watchers t).frames ∙ may.hearing.depths t
+
       go : (f : Event) → IsAllowed s.limits.harts threads t f rest → CanHear (after_room d t spare) t f
       go (events.Create child) a =
           let answer = create_answer s.limits.harts threads d.desk child may.hearing.agrees a.may in
@@ -218,6 +217,7 @@ module _ (s : Setting) (threads : Threads) (e : Event) (rest : List Event) (p : 
   module _ (spare : ℕ) (d' : Detected) (after : List Check) (spent : Option Label) (heard : Hears s.file s.limits (after_room d t spare) d' t (length p.events) e p.checks after spent) where
     abbrev q : Part
     q = record p { events = p.events ++ e ∷ []; checks = after; spent = spent }
+
     abbrev m : Moment
     m = record { entry = length (entries_before s.entries (turn_of s p)); round = s.round; item = Does t e; checks = heard.added }
 
@@ -243,8 +243,10 @@ module _ (s : Setting) (threads : Threads) (e : Event) (rest : List Event) (p : 
       where
         clock : List ℕ
         clock = (watcher_of (after_room d t spare) t).clock
+
         held : held_of d.desk t ≢ None
         held none = let x = labelled_holds g s.limits.slots (labels_now g h) (clocks_now g h) (queue_now g s.limits.slots h) d.desk t slot.sid standing.desk.desk slot.slot in let y = sym none ∙ x.1.1 in cc
+
         go : (f : Event) → IsAllowed s.limits.harts threads t f rest → Agrees s.limits.harts (threads_after t threads f) (desk_after d.desk t clock f)
         go (events.Create child) a = create_after s.limits.harts threads d.desk t child rest clock may.hearing.agrees a
         go events.End a = end_after s.limits.harts threads d.desk t rest clock may.hearing.agrees a held
@@ -262,9 +264,9 @@ module _ (s : Setting) (threads : Threads) (e : Event) (rest : List Event) (p : 
 
     depths : (u : ℕ) → length (frames_now (h ++ m ∷ []) u) ≡ (threads_after t threads e).depth u
     depths u = elim (cases_eq t u) [
-        | inl is ↦ subst (λ (v : ℕ). length (frames_now (h ++ m ∷ []) v) ≡ (threads_after t threads e).depth v) is (ap length (frames_event h m t e refl) ∙ depth_own t threads e (frames_now h t) (may.hearing.depths t))
-        | inr other ↦ ap length (frames_none h m u (rw (ne_eqb t u other) refl)) ∙ (may.hearing.depths u ∙ sym (depth_other t u threads e (λ is. other (sym is))))
-      ]
+      | inl is ↦ subst (λ (v : ℕ). length (frames_now (h ++ m ∷ []) v) ≡ (threads_after t threads e).depth v) is (ap length (frames_event h m t e refl) ∙ depth_own t threads e (frames_now h t) (may.hearing.depths t))
+      | inr other ↦ ap length (frames_none h m u (rw (ne_eqb t u other) refl)) ∙ (may.hearing.depths u ∙ sym (depth_other t u threads e (λ is. other (sym is))))
+    ]
 
     stands : Stands granules s.limits s.from (option_map (λ (l : Label). t) spent) (so_far s q) d'
     stands = subst (λ (ms : List Moment). Stands granules s.limits s.from (option_map (λ (l : Label). t) spent) ms d') (sym later) (heard.stands s.from h m (roomy spare) refl refl)
@@ -336,6 +338,7 @@ next_event file tid k events x p q old new w within = go w.rest w.split w.so_far
     seam : (xs : List Event) (y : Event) (ys : List Event) → get_or (xs ++ y ∷ ys) (length xs) x ≡ y
     seam [] y ys = refl
     seam (z ∷ xs) y ys = seam xs y ys
+
     go : (rest : List Event) → events ≡ w.done ++ rest → ((s : Setting) (threads : Threads) → s.file ≡ file → s.tid ≡ tid → MayHear s threads events p old → Heard s threads w.done p q new × MayHear s (fold (threads_after s.tid) threads w.done) rest q new) → NextEvent file tid k events (get_or events k x) p q old new
     go [] split is = absurd (omega (arith, w.count, ap length split, length-append w.done []))
     go (f ∷ rest) split is =
@@ -364,16 +367,16 @@ asks file tid k events e p q old mid new spare can w is =
     let threads = fold (threads_after s.tid) can.threads w.done in
     let may = (w.so_far_is s can.threads can.file_is can.tid_is can.may).1 in
     subst (Asks file tid e q) (sym is)
-      (subst (λ (x : List ℕ). Asks x tid e q (after_room mid tid spare)) can.file_is
-        (subst (λ (u : ℕ). Asks s.file u e q (after_room mid u spare)) can.tid_is
-          (record {
-            going = going s threads e w.rest q mid may spare;
-            stands = record { from = s.from; leaving = None; history = so_far s q; stands = subst (λ (l : Limits). Stands (granules_of s.file) l s.from None (so_far s q) (after_room mid s.tid spare)) (sym (limits_are s threads e w.rest q mid may)) (roomy s threads e w.rest q mid may spare) };
-            can = can_hear s threads e w.rest q mid may spare;
-            spare = its_spare s threads e w.rest q mid may spare;
-            count = its_count s threads e w.rest q mid may spare;
-            place = let x = may.room in let y = few_events s q in omega arith;
-          })))
+    (subst (λ (x : List ℕ). Asks x tid e q (after_room mid tid spare)) can.file_is
+    (subst (λ (u : ℕ). Asks s.file u e q (after_room mid u spare)) can.tid_is
+    (record {
+      going = going s threads e w.rest q mid may spare;
+      stands = record { from = s.from; leaving = None; history = so_far s q; stands = subst (λ (l : Limits). Stands (granules_of s.file) l s.from None (so_far s q) (after_room mid s.tid spare)) (sym (limits_are s threads e w.rest q mid may)) (roomy s threads e w.rest q mid may spare) };
+      can = can_hear s threads e w.rest q mid may spare;
+      spare = its_spare s threads e w.rest q mid may spare;
+      count = its_count s threads e w.rest q mid may spare;
+      place = let x = may.room in let y = few_events s q in omega arith;
+    })))
 
 -- one more is heard
 pub partway_more :
@@ -381,38 +384,39 @@ pub partway_more :
     Hears file (after_room mid tid spare).limits (after_room mid tid spare) new tid (length q.events) e q.checks after spent →
     Partway file tid (k + 1) events p (record q { events = q.events ++ e ∷ []; checks = after; spent = spent }) old new
 partway_more file tid k events e p q old mid new spare after spent w hears = record {
-    done = w.done ++ e ∷ [];
-    rest = w.rest;
-    split = w.split ∙ sym (append_assoc w.done (e ∷ []) w.rest);
-    count = omega (arith, w.count, length-append w.done (e ∷ []));
-    so_far_is = λ s threads f t may.
+  done = w.done ++ e ∷ [];
+  rest = w.rest;
+  split = w.split ∙ sym (append_assoc w.done (e ∷ []) w.rest);
+  count = omega (arith, w.count, length-append w.done (e ∷ []));
+  so_far_is = λ s threads f t may.
       let was = w.so_far_is s threads f t may in
       let mid_threads = fold (threads_after s.tid) threads w.done in
       let here : Hears s.file s.limits (after_room mid s.tid spare) new s.tid (length q.events) e q.checks after spent =
-          subst (λ (l : Limits). Hears s.file l (after_room mid s.tid spare) new s.tid (length q.events) e q.checks after spent) (limits_are s mid_threads e w.rest q mid was.1)
-            (subst (λ (u : ℕ). Hears s.file (after_room mid u spare).limits (after_room mid u spare) new u (length q.events) e q.checks after spent) (sym t)
-              (subst (λ (x : List ℕ). Hears x (after_room mid tid spare).limits (after_room mid tid spare) new tid (length q.events) e q.checks after spent) (sym f) hears)) in
+      subst (λ (l : Limits). Hears s.file l (after_room mid s.tid spare) new s.tid (length q.events) e q.checks after spent) (limits_are s mid_threads e w.rest q mid was.1)
+      (subst (λ (u : ℕ). Hears s.file (after_room mid u spare).limits (after_room mid u spare) new u (length q.events) e q.checks after spent) (sym t)
+      (subst (λ (x : List ℕ). Hears x (after_room mid tid spare).limits (after_room mid tid spare) new tid (length q.events) e q.checks after spent) (sym f) hears)) in
       let hearing = hearing_after s mid_threads e w.rest q mid was.1 spare new after spent here in
       let longer_is = longer s mid_threads e w.rest q mid was.1 spare new after spent here in
-      let folded : fold (threads_after s.tid) threads (w.done ++ e ∷ []) ≡ threads_after s.tid mid_threads e = fold-append (threads_after s.tid) threads w.done (e ∷ []) in
-      (record {
-        hearing = subst (λ (x : Threads). Hearing s x (record q { events = q.events ++ e ∷ []; checks = after; spent = spent }) new) (sym folded) hearing;
-        slot = λ none has. slot_after_it s mid_threads e w.rest q mid was.1 spare new after spent here (last_of w.done e none);
-        added = ap (λ (es : List Event). es ++ e ∷ []) was.0.added ∙ append_assoc p.events w.done (e ∷ []);
-        attached = was.0.attached;
-        steps = was.0.steps;
-        used = was.0.used;
-        grown = omega (arith, longer_is, was.0.grown, length-append w.done (e ∷ []));
-      },
-       record {
-         limits_are = may.limits_are;
-         hearing = subst (λ (x : Threads). Hearing s x (record q { events = q.events ++ e ∷ []; checks = after; spent = spent }) new) (sym folded) hearing;
-         are_threads = subst (AreThreads s.limits.harts) (sym folded) (one_kept s.limits.harts mid_threads s.tid e w.rest was.1.are_threads was.1.allowed.0);
-         allowed = subst (λ (x : Threads). AreAllowed s.limits.harts x s.tid w.rest) (sym folded) was.1.allowed.1;
-         slot = more s w.rest (is_last e) refl was.1.allowed.0 (λ last. slot_after_it s mid_threads e w.rest q mid was.1 spare new after spent here last);
-         room = omega (arith, was.1.room, longer_is);
-       });
-  }
+      let folded : fold (threads_after s.tid) threads (w.done ++ e ∷ []) ≡ threads_after s.tid mid_threads e = fold-append (threads_after s.tid) threads w.done (e ∷ []) in (
+        record {
+          hearing = subst (λ (x : Threads). Hearing s x (record q { events = q.events ++ e ∷ []; checks = after; spent = spent }) new) (sym folded) hearing;
+          slot = λ none has. slot_after_it s mid_threads e w.rest q mid was.1 spare new after spent here (last_of w.done e none);
+          added = ap (λ (es : List Event). es ++ e ∷ []) was.0.added ∙ append_assoc p.events w.done (e ∷ []);
+          attached = was.0.attached;
+          steps = was.0.steps;
+          used = was.0.used;
+          grown = omega (arith, longer_is, was.0.grown, length-append w.done (e ∷ []));
+        },
+        record {
+          limits_are = may.limits_are;
+          hearing = subst (λ (x : Threads). Hearing s x (record q { events = q.events ++ e ∷ []; checks = after; spent = spent }) new) (sym folded) hearing;
+          are_threads = subst (AreThreads s.limits.harts) (sym folded) (one_kept s.limits.harts mid_threads s.tid e w.rest was.1.are_threads was.1.allowed.0);
+          allowed = subst (λ (x : Threads). AreAllowed s.limits.harts x s.tid w.rest) (sym folded) was.1.allowed.1;
+          slot = more s w.rest (is_last e) refl was.1.allowed.0 (λ last. slot_after_it s mid_threads e w.rest q mid was.1 spare new after spent here last);
+          room = omega (arith, was.1.room, longer_is);
+        },
+      );
+}
   where
     last_of : (done : List Event) (e : Event) → list_any is_last (done ++ e ∷ []) ≡ false → is_last e ≡ false
     last_of [] e none = go (is_last e) none
@@ -425,6 +429,7 @@ partway_more file tid k events e p q old mid new spare after spent w hears = rec
         go : (b : Bool) → (b || list_any is_last (xs ++ e ∷ [])) ≡ false → list_any is_last (xs ++ e ∷ []) ≡ false
         go true z = absurd (cc)
         go false z = z
+
     more : {threads : Threads} (s : Setting) (rest : List Event) (b : Bool) → is_last e ≡ b → IsAllowed s.limits.harts threads s.tid e rest → (is_last e ≡ false → HasSlot s (record q { events = q.events ++ e ∷ []; checks = after; spent = spent })) →
         (rest ≡ []) ⊎ HasSlot s (record q { events = q.events ++ e ∷ []; checks = after; spent = spent })
     more s rest true z a has = inl (a.last z)
@@ -436,6 +441,6 @@ pub partway_next :
     Partway file tid (k + 1) events p (record q { events = noted; checks = after; spent = spent }) old new
 partway_next file tid k place events noted e p q old mid roomy new spare after spent w is at same hears =
     subst (λ (es : List Event). Partway file tid (k + 1) events p (record q { events = es; checks = after; spent = spent }) old new) (sym same)
-      (partway_more file tid k events e p q old mid new spare after spent w
-        (subst (λ (n : ℕ). Hears file (after_room mid tid spare).limits (after_room mid tid spare) new tid n e q.checks after spent) at
-          (subst (λ (d : Detected). Hears file d.limits d new tid place e q.checks after spent) is hears)))
+    (partway_more file tid k events e p q old mid new spare after spent w
+    (subst (λ (n : ℕ). Hears file (after_room mid tid spare).limits (after_room mid tid spare) new tid n e q.checks after spent) at
+    (subst (λ (d : Detected). Hears file d.limits d new tid place e q.checks after spent) is hears)))

@@ -1,6 +1,6 @@
 -- One instruction of a turn.
-use Rattle.std.proofs.Common.{◌≡◌, ◌≢◌, ℕ, zero, suc, ◌+◌, ◌*◌, ◌<◌, ◌≤◌, ◌^◌, ◌-◌, ◌⊎◌, ◌||◌, ◌&&◌, inl, inr, Bool, true, false, Option, Some, None, List, [], ◌∷◌, ◌++◌, length, length-append, append_assoc, append-nil, add-one, refl, ap, ap₂, sym, subst, ◌∙◌, arith, not}
-use Rattle.std.specs.Prelude.{All, option_map, fold, map, is_some, count_by}
+use Rattle.std.proofs.Common.{◌≡◌, ◌≢◌, ℕ, suc, ◌+◌, ◌*◌, ◌<◌, ◌^◌, ◌-◌, ◌⊎◌, ◌||◌, inl, inr, Bool, true, false, Option, Some, None, List, [], ◌∷◌, ◌++◌, length, length-append, append_assoc, refl, ap, ap₂, sym, subst, ◌∙◌, arith}
+use Rattle.std.specs.Prelude.{All, option_map, fold, map, is_some}
 use Rattle.std.specs.List.{list_any, list_all, enumerate_from}
 use Rattle.std.proofs.lemmas.Bool.{cases_eq}
 use Rattle.std.proofs.lemmas.List.{length-map}
@@ -12,14 +12,13 @@ use Rattle.elf_image.specs.File.{granule_of, granules_of}
 use Rattle.run_record.specs.declared.entry.DeskNote.TheVariants.{Nothing}
 use Rattle.run_laws.specs.Moments.{Notes, Moment, event_moment}
 use Rattle.run_laws.specs.Faithful.{IsMade, after}
-use Rattle.run_laws.specs.Labels.{raises, is_end}
-use Rattle.run_laws.specs.Present.{labels_now, label_now, frames_now}
-use Rattle.slot_desk.specs.Desks.{thread_of}
+use Rattle.run_laws.specs.Labels.{is_end}
+use Rattle.run_laws.specs.Present.{label_now, frames_now}
 use Rattle.bare_machine.specs.World.{World, lives, HasMemory}
 use Rattle.bare_machine.specs.Step.{Step, step}
 use Rattle.bare_machine.specs.Preview.{needs_slot}
 use Rattle.turn_laws.specs.Still.{OnlyPuts}
-use Rattle.turn_laws.specs.Turns.{Turn, main_entry, moments_before, moments_up_to, entries_before, with_instruction}
+use Rattle.turn_laws.specs.Turns.{moments_before, entries_before}
 use Rattle.turn_laws.proofs.StepsLaw.{made_next, needs_next, state_next}
 use Rattle.turn_laws.proofs.StillLaw.{puts-right, puts-spent, puts-grouped, puts-of_events, turn_still, frames-still}
 use Rattle.machine_laws.specs.Threads.{Threads, threads_in, threads_after, AreThreads}
@@ -28,13 +27,12 @@ use Rattle.machine_laws.specs.Steps.{IsStep}
 use Rattle.machine_laws.specs.Agrees.{Agrees}
 use Rattle.machine_laws.proofs.StepLaw.{step_is}
 use Rattle.machine_laws.proofs.NeedLaw.{needs_is}
-use Rattle.machine_laws.proofs.ThreadLaw.{own, local_raises, local_ends}
+use Rattle.machine_laws.proofs.ThreadLaw.{own}
 use Rattle.detector.specs.Detected.{Detected, watcher_of}
 use Rattle.detector.specs.Stands.{Stands}
 use Rattle.thread_turns.specs.declared.part.Part.{Part}
 use Rattle.thread_turns.specs.declared.watched.WatchedMachine.{WatchedMachine}
-use Rattle.thread_turns.specs.Ranges.{AreLimits}
-use Rattle.thread_turns.specs.Going.{Setting, bare, begun, world, turn_of, first, so_far, entry_of, is_needy, CanTake, HasSlot, IsQuiet, Hearing, Running, IsGoingOn}
+use Rattle.thread_turns.specs.Going.{Setting, bare, begun, world, turn_of, first, so_far, entry_of, is_needy, HasSlot, IsQuiet, Hearing, Running, IsGoingOn}
 use Rattle.thread_turns.specs.Turned.{MayHear, CanHearAll, Heard, HearsAll, CanGo, IsNext, MakesNext}
 use Rattle.thread_turns.proofs.EventLaws.{going_of}
 use Rattle.thread_turns.proofs.PutLaws.{stands_puts}
@@ -46,7 +44,15 @@ stepped p n used = record p { steps = n; used = used }
 -- what was heard doesn't depend on the number of instructions
 pub hearing_stepped : (s : Setting) (threads : Threads) (p : Part) (d : Detected) (n : ℕ) (used : Bool) → Hearing s threads p d → Hearing s threads (stepped p n used) d
 hearing_stepped s threads p d n used h = record {
-  stands = h.stands; era = h.era; watched = h.watched; agrees = h.agrees; depths = h.depths; right = h.right; spent = h.spent; grouped = h.grouped; of_events = h.of_events;
+  stands = h.stands;
+  era = h.era;
+  watched = h.watched;
+  agrees = h.agrees;
+  depths = h.depths;
+  right = h.right;
+  spent = h.spent;
+  grouped = h.grouped;
+  of_events = h.of_events;
   leaves = λ l q. let x = h.leaves l q in record { leaving = x.leaving; lost = x.lost };
 }
 
@@ -93,6 +99,7 @@ same_puts (_ ∷ es) a = absurd (cc)
 module _ (s : Setting) (p : Part) (v : WatchedMachine) (going : IsGoingOn s 1 p v) (unused : p.used ≡ false) (room : length (first s) + 8 * (p.steps + 1) < 2 ^ 32) where
   abbrev st : Step
   st = step s.file v.machine s.tid
+
   abbrev threads : Threads
   threads = threads_in v.machine
 
@@ -118,15 +125,15 @@ module _ (s : Setting) (p : Part) (v : WatchedMachine) (going : IsGoingOn s 1 p 
   -- whether the thread has a label tells which case it is
   pub labelled : (CanGo s p v) → is_some (watcher_of v.detector s.tid).label ≡ true → HasSlot s p
   labelled can some = elim can [
-      | inl has ↦ has
-      | inr quiet ↦ absurd (let z = rw quiet.0.label at some in cc)
-    ]
+    | inl has ↦ has
+    | inr quiet ↦ absurd (let z = rw quiet.0.label at some in cc)
+  ]
 
   pub unlabelled : (CanGo s p v) → is_some (watcher_of v.detector s.tid).label ≡ false → IsQuiet s p v.detector × (needs_slot s.file v.machine s.tid ≡ false)
   unlabelled can none = elim can [
-      | inl has ↦ absurd (let z = rw (going_of (granules_of s.file) s.limits s.from (option_map (λ (l : Label). s.tid) p.spent) (so_far s p) v.detector s.tid has.sid going.hearing.stands going.hearing.watched (going.hearing.agrees.lives_are s.tid ∙ alive) has.slot).labelled at none in cc)
-      | inr quiet ↦ quiet
-    ]
+    | inl has ↦ absurd (let z = rw (going_of (granules_of s.file) s.limits s.from (option_map (λ (l : Label). s.tid) p.spent) (so_far s p) v.detector s.tid has.sid going.hearing.stands going.hearing.watched (going.hearing.agrees.lives_are s.tid ∙ alive) has.slot).labelled at none in cc)
+    | inr quiet ↦ quiet
+  ]
 
   -- ---- the machine after the instruction
 
@@ -140,25 +147,26 @@ module _ (s : Setting) (p : Part) (v : WatchedMachine) (going : IsGoingOn s 1 p 
     pub running_next : Running s q st.world
     running_next = record {
       made =
-        let next = made_next (bare s) (begun s) (entry_of s p) going.running.made (ap (λ (w : World). lives w s.tid) (sym going.running.machine) ∙ alive) in
-        record {
-          alive = λ k l. next.alive k (let z = steps_are in omega arith);
-          events_are = events_are ∙ (ap (λ (w : World). p.events ++ (step s.file w s.tid).events) going.running.machine ∙ (next.events_are ∙ ap (Rattle.run_laws.specs.Faithful.events_made (bare s) (begun s) s.tid) (sym steps_are)));
-        };
+          let next = made_next (bare s) (begun s) (entry_of s p) going.running.made (ap (λ (w : World). lives w s.tid) (sym going.running.machine) ∙ alive) in
+          record {
+            alive = λ k l. next.alive k (let z = steps_are in omega arith);
+            events_are = events_are ∙ (ap (λ (w : World). p.events ++ (step s.file w s.tid).events) going.running.machine ∙ (next.events_are ∙ ap (Rattle.run_laws.specs.Faithful.events_made (bare s) (begun s) s.tid) (sym steps_are)));
+          };
       machine = machine_next ∙ ap (world s) (sym steps_are);
       memory = memory;
       harts = is.harts_stay ∙ going.running.harts;
       apart = λ k l. going.running.unused unused k (let z = steps_are in omega arith);
       unused = λ not_used k l. elim (cases_eq k p.steps) [
-          | inl at ↦ object_at k at ∙ none_of st.object (sym used_is ∙ not_used)
-          | inr other ↦ going.running.unused unused k (let z = steps_are in omega arith)
-        ];
+        | inl at ↦ object_at k at ∙ none_of st.object (sym used_is ∙ not_used)
+        | inr other ↦ going.running.unused unused k (let z = steps_are in omega arith)
+      ];
       used = λ is_used. (omega (arith, steps_are), λ none. some_of st.object (sym used_is ∙ is_used) (sym (object_at (q.steps - 1) (let z = steps_are in omega arith)) ∙ none));
     }
       where
         none_of : (o : Option ℕ) → is_some o ≡ false → o ≡ None
         none_of None z = refl
         none_of (Some x) z = absurd (cc)
+
         some_of : (o : Option ℕ) → is_some o ≡ true → o ≡ None → ⊥
         some_of None z n = absurd (cc)
         some_of (Some x) z n = absurd (cc)
@@ -205,7 +213,7 @@ module _ (s : Setting) (p : Part) (v : WatchedMachine) (going : IsGoingOn s 1 p 
     next_quiet quiet needless q_is = next_is v.detector
         (record {
           stands = subst (λ (o : Option Label). Stands (granules_of s.file) s.limits s.from (option_map (λ (l : Label). s.tid) o) (so_far s q) v.detector) (sym q_spent)
-            (subst (λ (ms : List Moment). Stands (granules_of s.file) s.limits s.from None ms v.detector) (sym later)
+              (subst (λ (ms : List Moment). Stands (granules_of s.file) s.limits s.from None ms v.detector) (sym later)
               (stands_puts (granules_of s.file) s.limits s.from None (so_far s p) v.detector (length (entries_before s.entries (turn_of s p))) (entry_of s q) 0 st.events (subst (λ (o : Option Label). Stands (granules_of s.file) s.limits s.from (option_map (λ (l : Label). s.tid) o) (so_far s p) v.detector) quiet.unspent going.hearing.stands) going.hearing.watched q_checks (same_puts st.events puts)));
           era = going.hearing.era;
           watched = going.hearing.watched;
@@ -221,45 +229,58 @@ module _ (s : Setting) (p : Part) (v : WatchedMachine) (going : IsGoingOn s 1 p 
         (ap length later ∙ (length-append (so_far s p) (map (event_moment (length (entries_before s.entries (turn_of s p))) (entry_of s q)) (enumerate_from 0 st.events)) ∙ ap (λ (n : ℕ). length (so_far s p) + n) (length-map (enumerate_from 0 st.events) (event_moment (length (entries_before s.entries (turn_of s p))) (entry_of s q)) ∙ long 0 st.events)))
         (λ none needy. absurd (let z : true ≡ false = sym needy ∙ (needy_next ∙ rw (quiet.needless, needless) refl) in cc))
         (λ not_used. inr (
-          let nothing = local_put st.events (no_object not_used) puts in
-          record {
-            events = events_are ∙ rw (quiet.events, nothing) refl;
-            checks = q_checks;
-            attached = ap (λ (x : Part). x.attached) q_is ∙ quiet.attached;
-            unspent = q_spent;
-            needless = needy_next ∙ rw (quiet.needless, needless) refl;
-            era = quiet.era;
-            label = quiet.label;
-            stands = quiet.stands;
-          }))
+        let nothing = local_put st.events (no_object not_used) puts in
+        record {
+          events = events_are ∙ rw (quiet.events, nothing) refl;
+          checks = q_checks;
+          attached = ap (λ (x : Part). x.attached) q_is ∙ quiet.attached;
+          unspent = q_spent;
+          needless = needy_next ∙ rw (quiet.needless, needless) refl;
+          era = quiet.era;
+          label = quiet.label;
+          stands = quiet.stands;
+        }))
       where
         puts : list_all is_put st.events ≡ true
         puts = needs_is s.file v.machine s.tid needless
+
         q_spent : q.spent ≡ None
         q_spent = ap (λ (x : Part). x.spent) q_is ∙ quiet.unspent
+
         q_checks : q.checks ≡ []
         q_checks = ap (λ (x : Part). x.checks) q_is ∙ quiet.checks
+
         q_events : q.events ≡ st.events
         q_events = events_are ∙ ap (λ (es : List Event). es ++ st.events) quiet.events
+
         threads_same : threads_in st.world ≡ threads
         threads_same = is.threads_are ∙ puts_stay s.tid threads st.events puts
+
         only : OnlyPuts (turn_of s q)
         only = record { events = subst (All (λ (e : Event). Rattle.turn_laws.specs.Still.is_put e ≡ true)) (sym q_events) (all_puts st.events puts); checks = q_checks }
+
         only_p : OnlyPuts (turn_of s p)
         only_p = record { events = subst (All (λ (e : Event). Rattle.turn_laws.specs.Still.is_put e ≡ true)) (sym quiet.events) (Rattle.std.proofs.lemmas.List.Elements.All-nil (λ (e : Event). Rattle.turn_laws.specs.Still.is_put e ≡ true)); checks = quiet.checks }
+
         long : (n : ℕ) (es : List Event) → length (enumerate_from n es) ≡ length es
         long n [] = refl
         long n (e ∷ es) = ap suc (long (n + 1) es)
+
         before : List Moment
         before = moments_before s.entries (turn_of s p)
+
         number : ℕ
         number = length (entries_before s.entries (turn_of s p))
+
         note : Moment
         note = record { entry = number; round = s.round; item = Notes s.tid Nothing; checks = [] }
+
         whole : Part
         whole = record p { events = q.events; steps = q.steps; used = q.used }
+
         after_note : Entry → List Event → List Moment
         after_note e es = map (event_moment number e) (enumerate_from 0 es)
+
         later : so_far s q ≡ so_far s p ++ map (event_moment (length (entries_before s.entries (turn_of s p))) (entry_of s q)) (enumerate_from 0 st.events)
         later =
             ap (so_far s) q_is
@@ -298,11 +319,12 @@ makes_labelled file tid p r q v w es object d unused steps some hears q_is s f t
     let at = at_setting s file v tid w es object f t steps in
     let has = labelled s p v going unused room can (ap (λ (u : ℕ). is_some (watcher_of v.detector u).label) t ∙ some) in
     let heard = subst (λ (x : List Event). Heard s (threads_in v.machine) x p r d) at.events (hears s (threads_in v.machine) f t (subst (λ (x : List Event). MayHear s (threads_in v.machine) x p v.detector) (sym at.events) (may_hear s p v going unused room has))) in
-    let more : q.steps ≡ p.steps + 1 = ap (λ (x : Part). x.steps) q_is ∙ ap (λ (n : ℕ). n + 1) heard.steps in
-    (subst (λ (x : World). IsGoingOn s 0 q (record { machine = x; detector = d })) (sym at.world)
-      (next_labelled s p v going unused room q q.used (ap (λ (x : Part). x.events) q_is ∙ heard.added) more (ap (λ (x : Part). x.used) q_is ∙ ap is_some at.object_is) (subst (HasMemory s.file) at.world at.memory) r d has heard
-        (q_is ∙ ap₂ (stepped r) (ap (λ (x : Part). x.steps) (sym q_is)) (ap (λ (x : Part). x.used) (sym q_is)))),
-     more)
+    let more : q.steps ≡ p.steps + 1 = ap (λ (x : Part). x.steps) q_is ∙ ap (λ (n : ℕ). n + 1) heard.steps in (
+      subst (λ (x : World). IsGoingOn s 0 q (record { machine = x; detector = d })) (sym at.world)
+          (next_labelled s p v going unused room q q.used (ap (λ (x : Part). x.events) q_is ∙ heard.added) more (ap (λ (x : Part). x.used) q_is ∙ ap is_some at.object_is) (subst (HasMemory s.file) at.world at.memory) r d has heard
+          (q_is ∙ ap₂ (stepped r) (ap (λ (x : Part). x.steps) (sym q_is)) (ap (λ (x : Part). x.used) (sym q_is)))),
+      more,
+    )
 
 pub makes_quiet : (file : List ℕ) (tid : ℕ) (p q : Part) (v : WatchedMachine) (w : World) (es : List Event) (object : Option ℕ) → p.used ≡ false → StepsTo file v tid w es object → is_some (watcher_of v.detector tid).label ≡ false →
     q ≡ record p { events = p.events ++ es; steps = p.steps + 1; used = is_some object } → MakesNext file tid p q v (record { machine = w; detector = v.detector })
@@ -310,8 +332,9 @@ makes_quiet file tid p q v w es object unused steps none q_is s f t going can ro
     let at = at_setting s file v tid w es object f t steps in
     let quiet = unlabelled s p v going unused room can (ap (λ (u : ℕ). is_some (watcher_of v.detector u).label) t ∙ none) in
     let more : q.steps ≡ p.steps + 1 = ap (λ (x : Part). x.steps) q_is in
-    let added : q.events ≡ p.events ++ es = ap (λ (x : Part). x.events) q_is in
-    (subst (λ (x : World). IsGoingOn s 0 q (record { machine = x; detector = v.detector })) (sym at.world)
-      (next_quiet s p v going unused room q q.used (added ∙ ap (λ (x : List Event). p.events ++ x) at.events) more (ap (λ (x : Part). x.used) q_is ∙ ap is_some at.object_is) (subst (HasMemory s.file) at.world at.memory) quiet.0 quiet.1
-        (subst (λ (x : Part). q ≡ record p { events = x.events; steps = x.steps; used = x.used }) (sym q_is) q_is)),
-     more)
+    let added : q.events ≡ p.events ++ es = ap (λ (x : Part). x.events) q_is in (
+      subst (λ (x : World). IsGoingOn s 0 q (record { machine = x; detector = v.detector })) (sym at.world)
+          (next_quiet s p v going unused room q q.used (added ∙ ap (λ (x : List Event). p.events ++ x) at.events) more (ap (λ (x : Part). x.used) q_is ∙ ap is_some at.object_is) (subst (HasMemory s.file) at.world at.memory) quiet.0 quiet.1
+          (subst (λ (x : Part). q ≡ record p { events = x.events; steps = x.steps; used = x.used }) (sym q_is) q_is)),
+      more,
+    )

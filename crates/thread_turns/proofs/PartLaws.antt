@@ -4,7 +4,7 @@ use Rattle.std.specs.Prelude.{if◌then◌else◌}
 use Rattle.thread_turns.specs.declared.part.Part.{Part}
 use Rattle.thread_turns.specs.declared.watched.WatchedMachine.{WatchedMachine}
 use Rattle.thread_turns.specs.Going.{Setting, first, IsGoingOn}
-use Rattle.thread_turns.specs.Turned.{IsTurnOf, CanGo, IsStopped, Readies, ReadiesAll, IsNext, MakesNext, Ends, BeginsPart, RunsPart}
+use Rattle.thread_turns.specs.Turned.{IsTurnOf, IsStopped, ReadiesAll, IsNext, MakesNext, BeginsPart, RunsPart}
 
 -- what has come of the turn so far
 pub record Partly (s : Setting) (stopped : Bool) (q : Part) (w : WatchedMachine) (most : ℕ) : Type 0 where
@@ -71,15 +71,15 @@ part_ends file tid most stopped p q old new positive so_far ended s f t none unu
       going_on = now.going_on;
       no_more = now.no_more;
       some = λ not_stopped. elim ended [
-          | inl is ↦ absurd (let z = sym is ∙ not_stopped in cc)
-          | inr (inl used) ↦ (now.going_on.running.used used).0
-          | inr (inr all) ↦ omega arith
-        ];
+        | inl is ↦ absurd (let z = sym is ∙ not_stopped in cc)
+        | inr (inl used) ↦ (now.going_on.running.used used).0
+        | inr (inr all) ↦ omega arith
+      ];
       ended = λ not_stopped. elim ended [
-          | inl is ↦ absurd (let z = sym is ∙ not_stopped in cc)
-          | inr (inl used) ↦ inl used
-          | inr (inr all) ↦ inr (let z = now.no_more in omega arith)
-        ];
+        | inl is ↦ absurd (let z = sym is ∙ not_stopped in cc)
+        | inr (inl used) ↦ inl used
+        | inr (inr all) ↦ inr (let z = now.no_more in omega arith)
+      ];
       stopped = now.stopped_is;
     }
 

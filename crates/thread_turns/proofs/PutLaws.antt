@@ -1,22 +1,17 @@
 -- Instructions of a thread without a slot: they only put bytes on the output.
-use Rattle.std.proofs.Common.{◌≡◌, ℕ, ◌+◌, ◌<◌, ◌≤◌, Bool, true, false, Option, Some, None, List, [], ◌∷◌, ◌++◌, length, length-append, append_assoc, append-nil, eq-eqb, refl, ap, sym, subst, ◌∙◌, arith}
-use Rattle.std.specs.Prelude.{All, map, slice_set}
+use Rattle.std.proofs.Common.{◌≡◌, ℕ, ◌+◌, ◌<◌, true, Option, List, [], ◌∷◌, ◌++◌, length, append_assoc, append-nil, refl, ap, sym, subst, ◌∙◌}
+use Rattle.std.specs.Prelude.{map}
 use Rattle.std.specs.List.{enumerate_from, list_all}
 use Rattle.std.proofs.lemmas.List.{set-get_or}
-use Rattle.std.proofs.lemmas.List.Elements.{All-head, All-tail}
 use Rattle.run_record.specs.declared.event.Event.{Event}
 use Rattle.run_record.specs.declared.event.Event.TheVariants as events
 use Rattle.run_record.specs.declared.entry.Entry.{Entry}
-use Rattle.run_record.specs.declared.entry.Check.{Check}
 use Rattle.run_record.specs.declared.limits.Limits.{Limits}
-use Rattle.run_laws.specs.Moments.{Item, Does, Moment, items, IsBy, event_moment, checks_at}
-use Rattle.run_laws.specs.Labels.{Labels, next_labels, event_labels}
-use Rattle.run_laws.specs.Clocks.{Clocks, next_clocks}
-use Rattle.run_laws.specs.Present.{labels_now, clocks_now}
-use Rattle.run_laws.proofs.PresentLaw.{labels_now-push, clocks_now-push}
+use Rattle.run_laws.specs.Moments.{Does, Moment, items, IsBy, event_moment, checks_at}
+use Rattle.run_laws.specs.Labels.{Labels}
+use Rattle.run_laws.specs.Clocks.{Clocks}
 use Rattle.slot_desk.proofs.HistoryLaw.{at_event}
 use Rattle.sync_slab.specs.Channels.{KeepsChannels, everywhere}
-use Rattle.sync_slab.proofs.ChannelLaws.{keeps-elsewhere}
 use Rattle.race_core.specs.Watched.{Watched, new_watched}
 use Rattle.race_core.specs.History.{AttachesWithin}
 use Rattle.turn_laws.specs.Still.{is_put, is_still, IsStill}
@@ -34,8 +29,8 @@ stands_put granules limits from leaving h m d t value count s made none watched 
     let keeps = subst (λ (k : Clocks). KeepsChannels everywhere d.era k d.objects) (sym (clocks-still limits.epochs h m still)) s.objects in
     let settled = subst (λ (l : Labels). AreSettled leaving l d.desk) (sym (labels-still limits.epochs h m still)) s.settled in
     let stands = stands_thread granules limits from h m d t leaving leaving d.desk d.objects (watcher_of d t) s (subst (IsBy t) (sym made) refl) none watched (subst (AttachesWithin limits.slots) (sym made) tt)
-          (at_event limits.epochs limits.slots (items (h ++ m ∷ [])) (length h) d.desk t e (desk_before limits.epochs limits.slots h m d.desk s.desk) (item-seam h m ∙ made) (λ x. cc) (λ u x. cc)) refl
-          keeps refl (still_watcher limits h m t (watcher_of d t) e (s.watchers t) made refl refl refl) settled in
+    (at_event limits.epochs limits.slots (items (h ++ m ∷ [])) (length h) d.desk t e (desk_before limits.epochs limits.slots h m d.desk s.desk) (item-seam h m ∙ made) (λ x. cc) (λ u x. cc)) refl
+    keeps refl (still_watcher limits h m t (watcher_of d t) e (s.watchers t) made refl refl refl) settled in
     subst (Stands granules limits from leaving (h ++ m ∷ [])) (ap (λ (ws : List Watched). record d { watchers = ws }) (set-get_or d.watchers t (new_watched t d.limits))) stands
 
 -- all moments of an entry that only puts bytes
@@ -45,5 +40,5 @@ stands_puts granules limits from leaving h d i e n [] s watched none all = subst
 stands_puts granules limits from leaving h d i e n (events.Put value count ∷ es) s watched none all =
     let m : Moment = event_moment i e (n, events.Put value count) in
     subst (λ (ms : List Moment). Stands granules limits from leaving ms d) (append_assoc h (m ∷ []) (map (event_moment i e) (enumerate_from (n + 1) es)))
-      (stands_puts granules limits from leaving (h ++ m ∷ []) d i e (n + 1) es (stands_put granules limits from leaving h m d e.tid value count s refl (ap (checks_at n) none) watched) watched none all)
+    (stands_puts granules limits from leaving (h ++ m ∷ []) d i e (n + 1) es (stands_put granules limits from leaving h m d e.tid value count s refl (ap (checks_at n) none) watched) watched none all)
 stands_puts granules limits from leaving h d i e n (_ ∷ es) s watched none all = absurd (cc)

@@ -44,12 +44,16 @@ pub record AsksAttach (tid : ℕ) (d : Detected) : Type 0 where
 module _ (s : Setting) (p : Part) (w : WatchedMachine) (on : IsGoingOn s 0 p w) (unused : p.used ≡ false) where
   abbrev t : ℕ
   t = s.tid
+
   abbrev h : List Moment
   h = first s
+
   abbrev g : ℕ
   g = s.limits.epochs
+
   abbrev d : Detected
   d = w.detector
+
   abbrev granules : ℕ
   granules = granules_of s.file
 
@@ -59,9 +63,9 @@ module _ (s : Setting) (p : Part) (w : WatchedMachine) (on : IsGoingOn s 0 p w) 
   -- a thread without a label did nothing so far
   pub quiet_of : (watcher_of d t).label ≡ None → IsQuiet s p d
   quiet_of none = elim (on.phase unused) [
-      | inl has ↦ absurd (let going = going_of granules s.limits s.from (option_map (λ (l : Label). t) p.spent) (so_far s p) d t has.sid on.hearing.stands on.hearing.watched alive_there has.slot in let q = sym none ∙ going.labelled in cc)
-      | inr quiet ↦ quiet
-    ]
+    | inl has ↦ absurd (let going = going_of granules s.limits s.from (option_map (λ (l : Label). t) p.spent) (so_far s p) d t has.sid on.hearing.stands on.hearing.watched alive_there has.slot in let q = sym none ∙ going.labelled in cc)
+    | inr quiet ↦ quiet
+  ]
 
   needy_next : is_needy s (p.steps + 1) ≡ (is_needy s p.steps || needs_slot s.file (world s p.steps) t)
   needy_next = needs_next (bare s) (begun s) (entry_of s p)
@@ -126,7 +130,7 @@ module _ (s : Setting) (p : Part) (w : WatchedMachine) (on : IsGoingOn s 0 p w) 
       unheld = unheld_now;
       front = λ sid rest q. (
         (let a = (front_there sid rest q).within in let b = on.limits_are.few_slots in omega arith),
-        (let a = below sid rest q in let b = (roomy.watchers t).greatest in omega arith)
+        (let a = below sid rest q in let b = (roomy.watchers t).greatest in omega arith),
       );
       count = let a = (roomy.watchers t).trace.counted in let b = few_in_trace g (items h) (length h) t in omega arith;
     }
@@ -174,18 +178,22 @@ module _ (s : Setting) (p : Part) (w : WatchedMachine) (on : IsGoingOn s 0 p w) 
       pub stops_there : r.desk.queue ≡ [] → Readies s false p (record p { attached = None }) w (record { machine = w.machine; detector = r })
       stops_there empty =
           subst (λ (o : Option Label). Readies s false p (record p { attached = o }) w (record { machine = w.machine; detector = r })) quiet.attached
-            (record { machine = refl; steps = refl; used = refl; goes_on = λ is. absurd cc; stops = λ is. (on_still, record { quiet = quiet_still; needy = needs; empty = empty }) })
+          (record { machine = refl; steps = refl; used = refl; goes_on = λ is. absurd cc; stops = λ is. (on_still, record { quiet = quiet_still; needy = needs; empty = empty }) })
 
       -- the front of the queue is taken
       module _ (l : Label) (rest : List ℕ) (front : r.desk.queue ≡ l.sid ∷ rest) (epoch : l.epoch ≡ (slot_of r.desk l.sid).last + 1) (era : l.era ≡ r.era) where
         abbrev q : Part
         q = record p { attached = Some l }
+
         abbrev n : Detected
         n = after_take r t l
+
         abbrev before : List Moment
         before = moments_before s.entries (turn_of s q)
+
         abbrev m : Moment
         m = note_moment (length s.entries) (turn_of s q) (Attach l)
+
         abbrev b : Moment
         b = note_moment (length (entries_before s.entries (turn_of s q))) (turn_of s q) Nothing
 
@@ -287,12 +295,12 @@ ready_as_it_is file tid p w o unused is either s f t on = goes_as_it_is s p w on
   where
     can : CanGo s p w
     can = elim (on.phase unused) [
-        | inl has ↦ inl has
-        | inr quiet ↦ elim either [
-          | inl some ↦ absurd (let z = sym some ∙ ap is_some (is ∙ (ap (λ (u : ℕ). (watcher_of w.detector u).label) (sym t) ∙ quiet.label)) in cc)
-          | inr none ↦ inr (quiet, ap (λ (x : List ℕ). needs_slot x w.machine s.tid) f ∙ (ap (needs_slot file w.machine) t ∙ none))
-        ]
+      | inl has ↦ inl has
+      | inr quiet ↦ elim either [
+        | inl some ↦ absurd (let z = sym some ∙ ap is_some (is ∙ (ap (λ (u : ℕ). (watcher_of w.detector u).label) (sym t) ∙ quiet.label)) in cc)
+        | inr none ↦ inr (quiet, ap (λ (x : List ℕ). needs_slot x w.machine s.tid) f ∙ (ap (needs_slot file w.machine) t ∙ none))
       ]
+    ]
 
 pub not_true : (b : Bool) → not b ≡ true → b ≡ false
 not_true true is = absurd cc
@@ -322,15 +330,18 @@ readies_of file tid p w o roomy new spare taken can unused is none needs at if_n
   where
     unlabelled : (watcher_of w.detector s.tid).label ≡ None
     unlabelled = ap (λ (u : ℕ). (watcher_of w.detector u).label) t ∙ (sym is ∙ none_of o none)
+
     needy : needs_slot s.file w.machine s.tid ≡ true
     needy = ap (λ (x : List ℕ). needs_slot x w.machine s.tid) f ∙ (ap (needs_slot file w.machine) t ∙ needs)
+
     room : roomy ≡ after_room w.detector s.tid spare
     room = at ∙ ap (λ (u : ℕ). after_room w.detector u spare) (sym t)
+
     go : (o : Option Label) → IfNone o ((roomy.desk.queue ≡ []) × (new ≡ roomy)) → IfSome o (Takes roomy new tid) → Readies s (is_some o) p (record p { attached = o }) w (record { machine = w.machine; detector = new })
     go None empty tt =
         subst (λ (x : Detected). Readies s false p (record p { attached = None }) w (record { machine = w.machine; detector = x })) (sym (empty.1 ∙ room))
-          (stops_there s p w on unused unlabelled spare needy (ap (λ (x : Detected). x.desk.queue) (sym room) ∙ empty.0))
+        (stops_there s p w on unused unlabelled spare needy (ap (λ (x : Detected). x.desk.queue) (sym room) ∙ empty.0))
     go (Some l) tt takes =
         let it : Takes (after_room w.detector s.tid spare) new s.tid l = subst (λ (x : Detected). Takes x new s.tid l) room (subst (λ (u : ℕ). Takes roomy new u l) (sym t) takes) in
         subst (λ (x : Detected). Readies s true p (record p { attached = Some l }) w (record { machine = w.machine; detector = x })) (sym it.after)
-          (takes_it s p w on unused unlabelled spare needy l it.rest it.front it.epoch it.era)
+        (takes_it s p w on unused unlabelled spare needy l it.rest it.front it.epoch it.era)

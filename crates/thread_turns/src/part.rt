@@ -1,5 +1,6 @@
 // What a turn has come to.
 ghost use Rattle.std.specs.Prelude.{◌≡◌, [], None, false};
+
 use run_record::{CheckList, EventList, Label};
 use std::alloc::Global;
 

@@ -6,11 +6,11 @@ ghost use Rattle.machine_laws.specs.Machine.{bare_of};
 ghost use Rattle.thread_turns.specs.Ranges.{AreLimits};
 ghost use Rattle.thread_turns.specs.Follows.{Follows, IsFollowing, moments_by, TakesTurn};
 
+use crate::Part;
+use crate::entries::push_turn;
 use bare_machine::Machine;
 use detector::Detector;
 use elf_image::Image;
-use crate::Part;
-use crate::entries::push_turn;
 use run_record::{Entries, Limits, NoMemory};
 use std::alloc::Global;
 

@@ -1,4 +1,4 @@
-use Rattle.std.proofs.Common.{rules, ◌≡◌, ◌<◌, ◌∙◌, ap, sym, subst, arith, refl}
+use Rattle.std.proofs.Common.{arith}
 use Rattle.thread_turns.proofs.EventLaws.{partway_start, partway_end, partway_next, next_event, asks}
 use Rattle.run_record.specs.declared.event.Event.TheVariants.{Leave}
 use Rattle.thread_turns.proofs.turn.hear_all.Goals as goal

@@ -28,7 +28,7 @@ check-found-requires-clause-label c =
     let half = half_now i in
     let next = next_part _ half.access half.done _ _ c.accepted.ensures half.parts in
     label_known (watcher_of c.args.self.now c.args.tid) (watcher_of c.parts.self c.args.tid) c.requires.going.label (cells_at c.parts.self.shadow c.in-Some.granule) (same_watcher _ _ _ _ _ _ _ _ _ _ half) c.requires.going.labelled
-      (λ this_era. slots_known _ _ _ _ _ _ _ _ _ _ (c.in-Some.granule, c.in-Some.mask) this_era half c.requires.stands next.within)
+    (λ this_era. slots_known _ _ _ _ _ _ _ _ _ _ (c.in-Some.granule, c.in-Some.mask) this_era half c.requires.stands next.within)
 
 pub check-found-requires-clause-some_byte : goal.check-found-requires-clause-some_byte
 check-found-requires-clause-some_byte c =
@@ -45,4 +45,4 @@ parts-preserved c =
     let labelled = ap (λ (w : Watched). w.label) same ∙ c.requires.going.labelled in
     let turn_is = ap (λ (n : ℕ). n % 4) (c.count.ensures ∙ ap (λ (t : HeldTrace). t.count) (c.trace.ensures ∙ ap (λ (w : Watched). w.trace) c.watcher-watcher.ensures)) in
     rw (c.in_ok-push.ensures.ok, c.first_of-raced.ensures) (half_step _ _ _ _ _ _ _ _ _ _ _ _ _ _ c.check-found.result.0 c.requires.going.label half next c.requires.going c.requires.going.labelled next.few_bits turn_is
-      (c.check-found.ensures.check half.access c.requires.going.label half.is_access labelled) c.check-found.ensures.stored (rw same at c.check-found.ensures.raced))
+    (c.check-found.ensures.check half.access c.requires.going.label half.is_access labelled) c.check-found.ensures.stored (rw same at c.check-found.ensures.raced))

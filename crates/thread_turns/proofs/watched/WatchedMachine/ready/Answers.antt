@@ -5,9 +5,9 @@ use Rattle.thread_turns.proofs.watched.WatchedMachine.ready.Goals as goal
 
 pub returns-then-is_some : goal.returns-then-is_some
 returns-then-is_some c = elim c.then-is_some.branch [
-    | then-is_some-via-then-is_some w ↦ ready_as_it_is _ _ _ _ _ c.requires.unused c.label.ensures (inl (sym c.is_some.ensures ∙ w.if-is_some.true))
-    | then-is_some-via-else-is_some+then-not-preview w ↦ ready_as_it_is _ _ _ _ _ c.requires.unused c.label.ensures (inr (sym w.preview.ensures.needs ∙ not_true _ w.if-not-preview.true))
-  ]
+  | then-is_some-via-then-is_some w ↦ ready_as_it_is _ _ _ _ _ c.requires.unused c.label.ensures (inl (sym c.is_some.ensures ∙ w.if-is_some.true))
+  | then-is_some-via-else-is_some+then-not-preview w ↦ ready_as_it_is _ _ _ _ _ c.requires.unused c.label.ensures (inr (sym w.preview.ensures.needs ∙ not_true _ w.if-not-preview.true))
+]
 
 pub attach-part-requires-clause-unheld : goal.attach-part-requires-clause-unheld
 attach-part-requires-clause-unheld c = (asks_of _ _ _ _ _ _ _ c.requires.unused c.requires.turn c.label.ensures (sym c.is_some.ensures ∙ c.if-is_some.false) c.in_ok-room.ensures.rest).unheld

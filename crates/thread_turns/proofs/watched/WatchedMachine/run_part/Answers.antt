@@ -1,4 +1,4 @@
-use Rattle.std.proofs.Common.{rules, ◌≡◌, ◌<◌, ◌∙◌, ap, sym, subst, arith, refl, inl, inr}
+use Rattle.std.proofs.Common.{arith, inl, inr}
 use Rattle.thread_turns.proofs.PartLaws.{partly_start, part_turn, part_next, part_unused, part_more, part_steps, part_stop, part_stop_steps, part_ends, at_false, from_false, goes_true, goes_false, smaller_step, smaller_stop}
 use Rattle.thread_turns.proofs.watched.WatchedMachine.run_part.Goals as goal
 
