@@ -1,8 +1,7 @@
-// What code addresses are called.
+// What code places are called.
 ghost use Rattle.std.specs.Prelude.{◌≡◌, [], ℕ};
 
-/// What is known of a code address: the function over it, and its file and line. Empty texts and 0 stand
-/// where nothing is known.
+/// The function, the file and the line of a place: empty texts and 0 where they are not known.
 #[derive(Clone, Copy)]
 pub struct Frame<'a> {
     pub name: &'a str,
@@ -10,20 +9,20 @@ pub struct Frame<'a> {
     pub line: u64,
 }
 
-/// Names of code addresses.
+/// Names of code places.
 pub trait Frames {
-    ghost use Rattle.report_text.specs.FrameTexts.{FrameText};
+    ghost use Rattle.symbol_lines.specs.FrameTexts.{FrameText};
 
     ghost frame_of: { Self → ℕ → FrameText };
 
-    /// What is known of the address.
+    /// What is known of a place. It takes no memory.
     fn frame(&self, place: u64) -> Frame<'_>
         ensures name { result.name.now ≡ (frame_of self.now place).name }
         ensures file { result.file.now ≡ (frame_of self.now place).file }
         ensures line { result.line ≡ (frame_of self.now place).line };
 }
 
-/// Knows no address.
+/// Knows no place.
 #[derive(Clone, Copy)]
 pub struct Unnamed;
 

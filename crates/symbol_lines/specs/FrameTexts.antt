@@ -1,4 +1,4 @@
--- What is known of a code address.
+-- What is known of a code place.
 use Rattle.std.specs.Prelude.{ℕ, List}
 
 -- the function's name, the file and the line; empty texts and 0 where nothing is known
