@@ -47,7 +47,7 @@ piece_then bound (b ∷ piece) rest [] h = let e : (b == 42) ≡ false = All-hea
 piece_then bound (b ∷ piece) rest (c ∷ text) h =
     let e : (b == 42) ≡ false = All-head (λ x. (x == 42) ≡ false) b piece h in
     rw e (ap (λ r. (b == c) && r) (piece_then bound piece rest text (All-tail (λ x. (x == 42) ≡ false) b piece h))
-      ∙ and_assoc (b == c) (starts_with ◌==◌ text piece) (some_end (matches_body bound rest) (drop (length piece) text)))
+    ∙ and_assoc (b == c) (starts_with ◌==◌ text piece) (some_end (matches_body bound rest) (drop (length piece) text)))
 
 -- a last piece whose end is bound
 pub whole_piece : (piece text : List ℕ) → IsPiece piece → matches_body true piece text ≡ bytes_eq piece text
@@ -99,8 +99,8 @@ first_place bound piece rest [] p =
 first_place bound piece rest (c ∷ text) p =
     ap (λ x. x || some_end (matches_body bound (piece ++ 42 ∷ rest)) text) (piece_then bound piece rest (c ∷ text) p)
     ∙ at_byte (starts_with ◌==◌ (c ∷ text) piece) (matches_body bound rest) (drop (length piece) (c ∷ text)) (some_end (matches_body bound (piece ++ 42 ∷ rest)) text) (after_piece piece text)
-      (λ later. one_less (matches_body bound rest) (length piece) (c ∷ text) (later_place bound piece rest text p later))
-      (first_place bound piece rest text p)
+    (λ later. one_less (matches_body bound rest) (length piece) (c ∷ text) (later_place bound piece rest text p later))
+    (first_place bound piece rest text p)
 
 some_place : (piece text : List ℕ) → some_end (λ t. starts_with ◌==◌ t piece) text ≡ is_some (after_piece piece text)
 some_place piece [] = elim (starts_with ◌==◌ [] piece) as (λ s. s ≡ is_some (cond s (Some (let l : List ℕ = [] in l)) None)) [ true ↦ refl | false ↦ refl ]
@@ -122,13 +122,13 @@ last_place piece [] = ap (bytes_eq piece) (sym (drop-nil (0 - length piece)))
 last_place piece (c ∷ text) =
     elim (cases_lt (length text) (length piece)) [
       | inl short ↦
-        let at : suc (length text) - length piece ≡ 0 = omega arith in
-        let rest : bytes_eq piece (drop (length text - length piece) text) ≡ false = differs piece (drop (length text - length piece) text) (λ e. omega (arith, e, length-drop (length text - length piece) text)) in
-        ap (λ r. bytes_eq piece (c ∷ text) || r) (last_place piece text ∙ rest) ∙ or_none (bytes_eq piece (c ∷ text)) false refl ∙ ap (λ n. bytes_eq piece (drop n (c ∷ text))) (sym at)
+          let at : suc (length text) - length piece ≡ 0 = omega arith in
+          let rest : bytes_eq piece (drop (length text - length piece) text) ≡ false = differs piece (drop (length text - length piece) text) (λ e. omega (arith, e, length-drop (length text - length piece) text)) in
+          ap (λ r. bytes_eq piece (c ∷ text) || r) (last_place piece text ∙ rest) ∙ or_none (bytes_eq piece (c ∷ text)) false refl ∙ ap (λ n. bytes_eq piece (drop n (c ∷ text))) (sym at)
       | inr long ↦
-        let at : suc (length text) - length piece ≡ suc (length text - length piece) = omega arith in
-        let here : bytes_eq piece (c ∷ text) ≡ false = differs piece (c ∷ text) (λ e. omega (arith, e)) in
-        ap (λ r. r || some_end (bytes_eq piece) text) here ∙ last_place piece text ∙ ap (λ n. bytes_eq piece (drop n (c ∷ text))) (sym at)
+          let at : suc (length text) - length piece ≡ suc (length text - length piece) = omega arith in
+          let here : bytes_eq piece (c ∷ text) ≡ false = differs piece (c ∷ text) (λ e. omega (arith, e)) in
+          ap (λ r. r || some_end (bytes_eq piece) text) here ∙ last_place piece text ∙ ap (λ n. bytes_eq piece (drop n (c ∷ text))) (sym at)
     ]
 
 -- a last piece at the end

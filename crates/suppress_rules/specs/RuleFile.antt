@@ -35,9 +35,9 @@ is_newline b = b == 10
 -- the kind of rule that a type stands for
 abbrev pub kind_of : List ℕ → Option Kind
 kind_of name =
-  if bytes_eq name (codes "race") then Some Race else
-  (if bytes_eq name (codes "race_top") then Some RaceTop else
-  (if bytes_eq name (codes "thread") || (bytes_eq name (codes "mutex") || (bytes_eq name (codes "signal") || (bytes_eq name (codes "deadlock") || bytes_eq name (codes "called_from_lib"))))
+    if bytes_eq name (codes "race") then Some Race else
+    (if bytes_eq name (codes "race_top") then Some RaceTop else
+    (if bytes_eq name (codes "thread") || (bytes_eq name (codes "mutex") || (bytes_eq name (codes "signal") || (bytes_eq name (codes "deadlock") || bytes_eq name (codes "called_from_lib"))))
     then Some NeverMet else None))
 
 -- the rule of a kind, if it is known
@@ -48,8 +48,8 @@ typed_rule number (Some kind) pattern = Ok (Some (record { kind = kind; pattern 
 -- what the trimmed line of this number gives: nothing, a rule, or a fault
 abbrev pub rule_in : ℕ → List ℕ → Result (Option Rule) RuleFault
 rule_in number line =
-  if is_skipped line then Ok None else
-  (if list_any is_colon line then typed_rule number (kind_of (before_first is_colon line)) (after_first is_colon line) else Err (NoColon number))
+    if is_skipped line then Ok None else
+    (if list_any is_colon line then typed_rule number (kind_of (before_first is_colon line)) (after_first is_colon line) else Err (NoColon number))
 
 -- these rules, and then those of the lines below, unless these have a fault
 abbrev pub prepended : List Rule → Result (List Rule) RuleFault → Result (List Rule) RuleFault

@@ -1,5 +1,5 @@
 // The rules of a file, and the stacks that meet them.
-ghost use Rattle.std.specs.Prelude.{◌≡◌, ◌≢◌, [], take, IfOk, is_some, Ok, Err};
+ghost use Rattle.std.specs.Prelude.{◌≡◌, ◌⊎◌, [], take, IfOk, IfErr, is_some, Ok, Err};
 ghost use Rattle.std.specs.List.{list_any};
 ghost use Rattle.suppress_rules.specs.RuleFile as file;
 ghost use Rattle.suppress_rules.specs.Stacks as stacks;
@@ -44,7 +44,8 @@ impl Rules {
     /// Lines end at a newline. Spaces, tabs and carriage returns at both ends of a line are dropped, and lines that are then
     /// empty or begin with `#` are skipped. Each other line is a rule: a type, `:` and a pattern.
     pub fn read(alloc: Global, bytes: &[u8]) -> Result<Rules, RuleFault>
-        ensures { result ≢ Err RuleFault.NoMemory → result ≡ file.rules_of bytes.now }
+        ensures read { IfOk result (λ rules. file.rules_of bytes.now ≡ Ok rules) }
+        ensures refused { IfErr result (λ fault. (fault ≡ RuleFault.NoMemory) ⊎ (file.rules_of bytes.now ≡ Err fault)) }
     {
         match std::str::from_utf8(bytes) {
             Ok(text) => read_lines(alloc, text.as_bytes()),
@@ -79,7 +80,8 @@ pub fn first_met<F: Frames>(
 
 // The rules of a file's lines, or their first fault.
 fn read_lines(alloc: Global, bytes: &[u8]) -> Result<Rules, RuleFault>
-    ensures { result ≢ Err RuleFault.NoMemory → result ≡ file.rules_from 1 (file.lines_of bytes.now) }
+    ensures read { IfOk result (λ rules. file.rules_from 1 (file.lines_of bytes.now) ≡ Ok rules) }
+    ensures refused { IfErr result (λ fault. (fault ≡ RuleFault.NoMemory) ⊎ (file.rules_from 1 (file.lines_of bytes.now) ≡ Err fault)) }
 {
     let mut rules = Items::new(alloc);
     let mut rest = bytes;
@@ -88,7 +90,7 @@ fn read_lines(alloc: Global, bytes: &[u8]) -> Result<Rules, RuleFault>
         let (line, below) = first_line(rest);
         number += 1;
         if let Some((kind, pattern)) = rule_in(number, trimmed(line))? {
-            let pattern = Items::from_vec(pattern.to_vec(alloc)?);
+            let pattern = Items::from_vec(Vec::from_slice(alloc, pattern)?);
             rules.push(Rule { kind, pattern })?;
         }
         rest = below;
