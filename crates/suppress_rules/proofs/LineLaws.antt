@@ -1,7 +1,7 @@
 -- What a line gives.
-use Rattle.std.proofs.Common.{◌≡◌, ℕ, ◌==◌, ◌||◌, Bool, false, List, [], ◌∷◌, ◌++◌, length, codes, refl, sym, ap, ◌∙◌, None, Some, Ok, Err}
+use Rattle.std.proofs.Common.{◌≡◌, ℕ, ◌==◌, false, List, ◌∷◌, ◌++◌, length, codes, sym, ◌∙◌, Err}
 use Rattle.std.proofs.lemmas.Bool.{or_from, cond-false, cond-true}
-use Rattle.std.specs.List.{list_any, starts_with, before_first, after_first}
+use Rattle.std.specs.List.{list_any, starts_with}
 use Rattle.suppress_rules.specs.declared.fault.RuleFault.TheVariants.{NoColon}
 use Rattle.suppress_rules.specs.RuleFile.{is_skipped, is_colon, kind_of, typed_rule, rule_in}
 use Rattle.suppress_rules.proofs.CutLaws.{Lacks, before_cut, after_cut, any_cut, any_none}

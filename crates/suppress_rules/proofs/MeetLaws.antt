@@ -1,5 +1,5 @@
 -- Some rule is met just where there is a first one.
-use Rattle.std.proofs.Common.{◌≡◌, ℕ, ◌+◌, ◌<◌, ◌≤◌, ◌||◌, not, Bool, true, false, cond, ltb, List, [], ◌∷◌, length, Some, None, is_some, refl, ap, ◌∙◌, sym, inl, inr, arith, suc}
+use Rattle.std.proofs.Common.{◌≡◌, ℕ, ◌+◌, ◌||◌, not, Bool, true, false, cond, ltb, List, [], ◌∷◌, length, Some, None, is_some, refl, ◌∙◌, sym, inl, inr, arith, suc}
 use Rattle.std.proofs.lemmas.Bool.{cases_lt, lt-ltb, le-ltb}
 use Rattle.std.specs.List.{list_any, position, position_or_len}
 

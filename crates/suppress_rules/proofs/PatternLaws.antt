@@ -1,11 +1,11 @@
 -- A piece that is taken at its first place leaves the most for what follows.
-use Rattle.std.proofs.Common.{◌≡◌, ℕ, ◌+◌, ◌-◌, ◌<◌, ◌≤◌, ◌==◌, ◌&&◌, ◌||◌, not, Bool, true, false, cond, List, [], ◌∷◌, ◌++◌, length, take, drop, Option, Some, None, is_some, refl, sym, ap, ◌∙◌, inl, inr, arith, length-drop, suc, zero, Bor, option_copied}
-use Rattle.std.proofs.lemmas.Bool.{and_parts, or_cases, or_right, cases_Bool, cases_lt, false_from_ne_true, ne_eqb}
+use Rattle.std.proofs.Common.{◌≡◌, ℕ, ◌-◌, ◌==◌, ◌&&◌, ◌||◌, Bool, true, false, cond, List, [], ◌∷◌, ◌++◌, length, drop, Option, Some, None, is_some, refl, sym, ap, ◌∙◌, inl, inr, arith, length-drop, suc, zero, Bor, option_copied}
+use Rattle.std.proofs.lemmas.Bool.{and_parts, or_cases, or_right, cases_lt, false_from_ne_true, ne_eqb}
 use Rattle.std.proofs.lemmas.List.Elements.{All-head, All-tail}
 use Rattle.std.proofs.lemmas.Slice.Eq.{bytes_eq-Decides}
 use Rattle.std.specs.List.{All, starts_with, ends_with}
 use Rattle.std.specs.Str.{bytes_eq}
-use Rattle.suppress_rules.specs.Patterns.{some_end, byte_then, matches_body, after_piece}
+use Rattle.suppress_rules.specs.Patterns.{some_end, matches_body, after_piece}
 
 -- no byte of the piece is a star
 abbrev pub IsPiece : List ℕ → Type 0

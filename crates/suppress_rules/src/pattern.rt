@@ -22,9 +22,9 @@ fn matches_here(pattern: &[u8], text: &[u8]) -> bool
     ensures { result ≡ patterns.matches_here pattern.now text.now }
 {
     if pattern.ends_with(b"$") {
-        begins_with(true, &pattern[..pattern.len() - 1], text)
+        matches_body(true, &pattern[..pattern.len() - 1], text)
     } else {
-        begins_with(false, pattern, text)
+        matches_body(false, pattern, text)
     }
 }
 
@@ -33,19 +33,19 @@ fn matches_somewhere(pattern: &[u8], text: &[u8]) -> bool
     ensures { result ≡ patterns.some_end (patterns.matches_here pattern.now) text.now }
 {
     if pattern.ends_with(b"$") {
-        some_end_begins_with(true, &pattern[..pattern.len() - 1], text)
+        matches_body_somewhere(true, &pattern[..pattern.len() - 1], text)
     } else {
-        some_end_begins_with(false, pattern, text)
+        matches_body_somewhere(false, pattern, text)
     }
 }
 
 // Whether the text begins with what the pattern describes, and ends there where its end is bound.
-fn begins_with(bound: bool, pattern: &[u8], text: &[u8]) -> bool
+fn matches_body(bound: bool, pattern: &[u8], text: &[u8]) -> bool
     ensures { result ≡ patterns.matches_body bound pattern.now text.now }
 {
     match cut_at(pattern, b'*') {
         Some((piece, rest)) => {
-            text.starts_with(piece) && some_end_begins_with(bound, rest, &text[piece.len()..])
+            text.starts_with(piece) && matches_body_somewhere(bound, rest, &text[piece.len()..])
         }
         None if bound => pattern == text,
         None => text.starts_with(pattern),
@@ -54,7 +54,7 @@ fn begins_with(bound: bool, pattern: &[u8], text: &[u8]) -> bool
 
 // The same of some end of the text. A piece between two stars is taken at the first place where it stands: the star after it
 // stands for all that a later place would leave out.
-fn some_end_begins_with(bound: bool, pattern: &[u8], text: &[u8]) -> bool
+fn matches_body_somewhere(bound: bool, pattern: &[u8], text: &[u8]) -> bool
     ensures { result ≡ patterns.some_end (patterns.matches_body bound pattern.now) text.now }
 {
     let mut pattern = pattern;

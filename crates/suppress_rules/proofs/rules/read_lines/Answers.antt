@@ -1,4 +1,4 @@
-use Rattle.std.proofs.Common.{◌≡◌, ◌+◌, ◌≤◌, ◌∙◌, [], ◌∷◌, ◌++◌, sym, ap, length, Ok, Err, Some, None, option_map, arith, inr}
+use Rattle.std.proofs.Common.{◌≡◌, ◌+◌, ◌≤◌, ◌∙◌, [], ◌∷◌, ◌++◌, sym, ap, length, Ok, Some, None, option_map, arith, inr}
 use Rattle.std.proofs.lemmas.Result.{err_from_is_err_and}
 use Rattle.suppress_rules.specs.RuleFile as file
 use Rattle.suppress_rules.proofs.FileLaws.{skips, adds, fails, below_shorter, shown}

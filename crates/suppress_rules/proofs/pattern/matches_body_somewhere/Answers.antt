@@ -1,7 +1,7 @@
 use Rattle.std.proofs.Common.{sym, ap, ◌∙◌, is_some}
 use Rattle.suppress_rules.specs.Patterns as patterns
 use Rattle.suppress_rules.proofs.PatternLaws.{past_piece, no_piece, bound_end, open_end, found}
-use Rattle.suppress_rules.proofs.pattern.some_end_begins_with.Goals as goal
+use Rattle.suppress_rules.proofs.pattern.matches_body_somewhere.Goals as goal
 
 pub returns-in-None : goal.returns-in-None
 returns-in-None c =
