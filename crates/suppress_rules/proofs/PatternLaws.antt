@@ -3,13 +3,15 @@ use Rattle.std.proofs.Common.{◌≡◌, ℕ, ◌-◌, ◌==◌, ◌&&◌, ◌||
 use Rattle.std.proofs.lemmas.Bool.{and_parts, or_cases, or_right, cases_lt, false_from_ne_true, ne_eqb}
 use Rattle.std.proofs.lemmas.List.Elements.{All-head, All-tail}
 use Rattle.std.proofs.lemmas.Slice.Eq.{bytes_eq-Decides}
-use Rattle.std.specs.List.{All, starts_with, ends_with}
+use Rattle.std.specs.List.{starts_with, ends_with}
 use Rattle.std.specs.Str.{bytes_eq}
-use Rattle.suppress_rules.specs.Patterns.{some_end, matches_body, after_piece}
+use Rattle.suppress_rules.specs.Patterns.{some_end, matches_body}
+use Rattle.suppress_rules.specs.Pieces.{after_piece}
+use Rattle.suppress_rules.proofs.CutLaws.{Lacks}
 
 -- no byte of the piece is a star
 abbrev pub IsPiece : List ℕ → Type 0
-IsPiece piece = All (λ b. (b == 42) ≡ false) piece
+IsPiece piece = Lacks 42 piece
 
 and_assoc : (x y z : Bool) → (x && (y && z)) ≡ ((x && y) && z)
 and_assoc true y z = refl

@@ -1,5 +1,5 @@
 -- Patterns, and the texts that they match.
-use Rattle.std.specs.Prelude.{ℕ, ◌-◌, ◌==◌, ◌&&◌, ◌||◌, not, Bool, true, false, if◌then◌else◌, List, [], ◌∷◌, length, take, drop, codes, Option, Some, None}
+use Rattle.std.specs.Prelude.{ℕ, ◌-◌, ◌==◌, ◌&&◌, ◌||◌, not, Bool, true, false, if◌then◌else◌, List, [], ◌∷◌, length, take, drop, codes}
 use Rattle.std.specs.List.{starts_with, ends_with}
 
 -- `*`
@@ -29,8 +29,3 @@ matches_here pattern text = if ends_with ◌==◌ pattern (codes "$") then match
 -- the pattern matches the text: at its beginning where the first byte is `^`, else anywhere; no pattern matches the empty text
 abbrev pub matches : List ℕ → List ℕ → Bool
 matches pattern text = not (length text == 0) && (if starts_with ◌==◌ pattern (codes "^") then matches_here (drop 1 pattern) text else some_end (matches_here pattern) text)
-
--- what stands after the first place of a piece in a text, if the piece stands there
-abbrev pub after_piece : List ℕ → List ℕ → Option (List ℕ)
-after_piece piece [] = if starts_with ◌==◌ [] piece then Some [] else None
-after_piece piece (c ∷ text) = if starts_with ◌==◌ (c ∷ text) piece then Some (drop (length piece) (c ∷ text)) else after_piece piece text

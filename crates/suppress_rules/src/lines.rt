@@ -1,5 +1,5 @@
 // The lines of a file of rules.
-ghost use Rattle.std.specs.Prelude.{◌≡◌, ◌+◌, ◌<◌, length, option_map, MatchResult, Ok, Err};
+ghost use Rattle.std.specs.Prelude.{◌≡◌, option_map, MatchResult, Ok, Err};
 ghost use Rattle.std.specs.List.{before_first, after_first};
 ghost use Rattle.suppress_rules.specs.RuleFile as file;
 

@@ -1,10 +1,12 @@
 // Patterns, and the texts that they match.
 ghost use Rattle.std.specs.Prelude.{◌≡◌, option_copied};
 ghost use Rattle.suppress_rules.specs.Patterns as patterns;
+ghost use Rattle.suppress_rules.specs.Pieces as pieces;
 
 use crate::cut::cut_at;
 
-/// Whether the pattern matches the text, in time proportional to the one's length times the other's.
+/// Whether the pattern matches the text. It compares at most as many bytes as the pattern's length times the text's and one
+/// more.
 pub fn matches(pattern: &[u8], text: &[u8]) -> bool
     ensures { result ≡ patterns.matches pattern.now text.now }
 {
@@ -75,7 +77,7 @@ fn matches_body_somewhere(bound: bool, pattern: &[u8], text: &[u8]) -> bool
 
 // What stands after the first place of the piece in the text.
 fn after_piece<'a>(piece: &[u8], text: &'a [u8]) -> Option<&'a [u8]>
-    ensures { option_copied result ≡ patterns.after_piece piece.now text.now }
+    ensures { option_copied result ≡ pieces.after_piece piece.now text.now }
 {
     let mut rest = text;
     while !rest.starts_with(piece) {
