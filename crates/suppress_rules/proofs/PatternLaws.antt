@@ -26,7 +26,7 @@ or_none : (x y : Bool) → y ≡ false → (x || y) ≡ x
 or_none x y e = or_absorb x y (λ t. cc)
 
 -- what is left where nothing is
-pub drop-nil : (n : ℕ) → drop n (let l : List ℕ = [] in l) ≡ []
+pub drop-nil : (n : ℕ) → drop {A = ℕ} n [] ≡ []
 drop-nil zero = refl
 drop-nil (suc n) = refl
 
@@ -104,8 +104,12 @@ first_place bound piece rest (c ∷ text) p =
     (λ later. one_less (matches_body bound rest) (length piece) (c ∷ text) (later_place bound piece rest text p later))
     (first_place bound piece rest text p)
 
+at_last : (s : Bool) (left : List ℕ) → s ≡ is_some (cond s (Some left) None)
+at_last true left = refl
+at_last false left = refl
+
 some_place : (piece text : List ℕ) → some_end (λ t. starts_with ◌==◌ t piece) text ≡ is_some (after_piece piece text)
-some_place piece [] = elim (starts_with ◌==◌ [] piece) as (λ s. s ≡ is_some (cond s (Some (let l : List ℕ = [] in l)) None)) [ true ↦ refl | false ↦ refl ]
+some_place piece [] = at_last (starts_with ◌==◌ [] piece) []
 some_place piece (c ∷ text) =
     elim (starts_with ◌==◌ (c ∷ text) piece) as (λ s. (s || some_end (λ t. starts_with ◌==◌ t piece) text) ≡ is_some (cond s (Some (drop (length piece) (c ∷ text))) (after_piece piece text))) [
       | true ↦ refl

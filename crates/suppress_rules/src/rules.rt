@@ -42,7 +42,8 @@ impl Rules {
     /// lines.
     ///
     /// Lines end at a newline. Spaces, tabs and carriage returns at both ends of a line are dropped, and lines that are then
-    /// empty or begin with `#` are skipped. Each other line is a rule: a type, `:` and a pattern.
+    /// empty or begin with `#` are skipped. Each other line is a rule: a type, `:` and a pattern. It takes memory for each
+    /// rule and its pattern.
     pub fn read(alloc: Global, bytes: &[u8]) -> Result<Rules, RuleFault>
         ensures read { IfOk result (λ rules. file.rules_of bytes.now ≡ Ok rules) }
         ensures refused { IfErr result (λ fault. (fault ≡ RuleFault.NoMemory) ⊎ (file.rules_of bytes.now ≡ Err fault)) }
