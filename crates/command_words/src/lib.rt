@@ -1,0 +1,9 @@
+//! The words of the command line.
+#![tactic(auto)]
+
+mod command;
+mod numbers;
+mod plans;
+mod request;
+
+pub use request::{Refusal, Request, Task, UsageFault};
