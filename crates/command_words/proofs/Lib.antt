@@ -1,2 +1,4 @@
 mod Taken
 mod NumberLaws
+mod PlanLaws
+mod RequestLaws

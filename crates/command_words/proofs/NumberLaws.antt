@@ -1,8 +1,8 @@
 -- How the number that a text writes is read.
-use Rattle.std.proofs.Common.{ℕ, ◌≡◌, ◌≤◌, ◌<◌, ◌^◌, ◌∙◌, ◌&&◌, Bool, true≢false, inl, inr, true, false, if◌then◌else◌, List, Option, Some, None, Result, Ok, Err, ap, arith, length, refl, rules, sym, le-leb, leb-true}
+use Rattle.std.proofs.Common.{ℕ, ◌≡◌, ◌≤◌, ◌<◌, ◌^◌, ◌∙◌, ◌&&◌, Bool, true≢false, inl, inr, zero, suc, [], ◌∷◌, true, false, if◌then◌else◌, List, Option, Some, None, Result, Ok, Err, ap, arith, length, refl, rules, sym, nat_le, le-leb, leb-true}
 use Rattle.std.specs.Char.{is_ascii_digit}
 use Rattle.std.specs.List.{list_all, slice_index_or}
-use Rattle.std.specs.Option.{IfNone, is_some}
+use Rattle.std.specs.Option.{IfNone, is_some, option_map_or, unwrap_or}
 use Rattle.std.proofs.lemmas.List.Folds.{list_all_at}
 use Rattle.std.specs.Str.Parse.{ParsesUnsigned, digits_value}
 use Rattle.std.proofs.lemmas.Bool.{cases_lt}
@@ -10,7 +10,7 @@ use Rattle.std.proofs.lemmas.Bool.Decides.{nat_tests}
 use Rattle.std.proofs.lemmas.Str.Parse.{IsDigitsTest, IsNumeralModel, numerals_by_value, parse_digits}
 use Rattle.clap.specs.Walk.{Row, Text}
 use Rattle.run_record.specs.declared.limits.Limits.{Limits}
-use Rattle.command_words.specs.Numbers.{NumberOption, epochs, given, harts, has_numbers, is_between, is_numeral, limits_in, number_in, number_of, number_options, part_words, parts, quantum, seed, size, slots, steps}
+use Rattle.command_words.specs.Numbers.{NumberOption, epochs, given, harts, has_numbers, is_between, is_numeral, limits_in, number, number_in, number_of, number_options, part_words, parts, quantum, seed, size, slots, steps}
 
 are_digits : IsDigitsTest (λ text. list_all is_ascii_digit text ≡ true)
 are_digits = search rules
@@ -97,3 +97,47 @@ pub limits_are : (rows : List Row) (n : Limits) (r z : ℕ) → HasThese rows n 
 unfolding limits_in
 limits_are rows n r z h =
     rw (← h.harts_is, ← h.slots_is, ← h.epochs_is, ← h.steps_is, ← h.quantum_is, ← h.parts_is, ← h.part_words_is) refl
+
+-- ---- ranges
+
+number_of_range : (digits least most n : ℕ) (text : Text) → number_of digits least most text ≡ Some n → (least ≤ n) × (n ≤ most)
+unfolding number_of
+number_of_range digits least most n text h = chosen (is_numeral digits text) (is_between least most (digits_value 10 text)) refl h
+  where
+    chosen : (a b : Bool) → is_between least most (digits_value 10 text) ≡ b → (if a && b then Some (digits_value 10 text) else None) ≡ Some n → (least ≤ n) × (n ≤ most)
+    chosen false b is e = cc
+    chosen true false is e = cc
+    chosen true true is e =
+        let same : digits_value 10 text ≡ n = cc in
+        let sides = both (nat_le least (digits_value 10 text)) (nat_le (digits_value 10 text) most) is in
+        (rw (← same) (leb-true _ _ sides.0), rw (← same) (leb-true _ _ sides.1))
+
+number_in_range : (rows : List Row) (option : NumberOption) (n : ℕ) → option.least ≤ option.default → option.default ≤ option.most → number_in rows option ≡ Some n
+    → (option.least ≤ n) × (n ≤ option.most)
+unfolding number_in
+number_in_range rows option n low high h = chosen (given rows option.name) h
+  where
+    chosen : (o : Option Text) → option_map_or (number_of 10 option.least option.most) o (Some option.default) ≡ Some n → (option.least ≤ n) × (n ≤ option.most)
+    chosen (Some text) e = number_of_range 10 option.least option.most n text e
+    chosen None e = let same : option.default ≡ n = cc in (rw (← same) low, rw (← same) high)
+
+number_there : (o : Option ℕ) → is_some o ≡ true → o ≡ Some (unwrap_or o 0)
+number_there (Some n) h = refl
+number_there None h = cc
+
+passes_at : {X : Type 0} (p : X → Bool) (xs : List X) (i : ℕ) (d : X) → i < length xs → list_all p xs ≡ true → p (slice_index_or xs i d) ≡ true
+passes_at p [] i d lt all = absurd (omega arith)
+passes_at p (x ∷ xs) zero d lt all = (both _ _ all).0
+passes_at p (x ∷ xs) (suc i) d lt all = passes_at p xs i d (omega arith) (both _ _ all).1
+
+-- each option's number is in its range
+pub number_range : (rows : List Row) → has_numbers rows ≡ true → (i : ℕ) → i < 9
+    → (slice_index_or number_options i harts).least ≤ (slice_index_or number_options i harts).default
+    → (slice_index_or number_options i harts).default ≤ (slice_index_or number_options i harts).most
+    → ((slice_index_or number_options i harts).least ≤ number rows (slice_index_or number_options i harts))
+    × (number rows (slice_index_or number_options i harts) ≤ (slice_index_or number_options i harts).most)
+unfolding has_numbers
+number_range rows all i lt low high =
+    let option = slice_index_or number_options i harts in
+    number_in_range rows option (number rows option) low high (number_there (number_in rows option)
+    (passes_at (λ (o : NumberOption). is_some (number_in rows o)) number_options i harts lt all))

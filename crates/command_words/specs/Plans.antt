@@ -1,5 +1,5 @@
 -- The text of a plan.
-use Rattle.std.specs.Prelude.{ℕ, ◌==◌, ◌&&◌, Bool, List, [], Option, Some, is_some, length, nat_le, option_and_then, option_map}
+use Rattle.std.specs.Prelude.{ℕ, ◌==◌, ◌&&◌, Bool, List, [], Option, Some, None, is_some, length, nat_le}
 use Rattle.std.specs.List.{after_first, before_first, filter_map, list_all, slice_split}
 use Rattle.clap.specs.Walk.{Text}
 use Rattle.run_record.specs.declared.plan.Turn.{Turn}
@@ -11,10 +11,13 @@ is_colon byte = byte == 58
 abbrev pub is_comma : ℕ → Bool
 is_comma byte = byte == 44
 
+abbrev pub turn_from : Option ℕ → Option ℕ → Option Turn
+turn_from (Some tid) (Some steps) = Some (record { tid = tid; steps = steps })
+turn_from _ _ = None
+
 -- the turn that a text `T:N` tells: at most N instructions of thread T
 unfoldable pub turn_of : Text → Option Turn
-turn_of text = option_and_then (λ tid. option_map (λ steps. record { tid = tid; steps = steps })
-    (number_of 8 1 8000000 (after_first is_colon text))) (number_of 4 0 1023 (before_first is_colon text))
+turn_of text = turn_from (number_of 4 0 1023 (before_first is_colon text)) (number_of 8 1 8000000 (after_first is_colon text))
 
 -- the parts of a text between commas, of which there is one at least
 abbrev pub pieces_of : Text → List Text

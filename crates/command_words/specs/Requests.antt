@@ -13,6 +13,8 @@ use Rattle.command_words.specs.declared.request.Refusal.TheVariants.{Usage, NoMe
 use Rattle.command_words.specs.declared.request.Request.{Request}
 use Rattle.command_words.specs.declared.request.Task.{Task}
 use Rattle.command_words.specs.declared.request.Task.TheVariants as task
+use Rattle.command_words.specs.declared.reader.Work.{Work}
+use Rattle.command_words.specs.declared.reader.Work.TheVariants as work
 use Rattle.command_words.specs.declared.request.UsageFault.{UsageFault}
 use Rattle.command_words.specs.declared.request.UsageFault.TheVariants as fault
 
@@ -32,7 +34,12 @@ pub record RequestText : Type 0 where
 abbrev pub task_text : Task → TaskText
 task_text (task.Run file) = run file.now
 task_text (task.Step file) = step file.now
-task_text (task.Generate seed size) = generate seed size
+task_text (task.Generate s z) = generate s z
+
+abbrev pub work_task : Work → ℕ → ℕ → TaskText
+work_task (work.Run file) _ _ = run file.now
+work_task (work.Step file) _ _ = step file.now
+work_task work.Generate s z = generate s z
 
 abbrev pub request_text : Request → RequestText
 request_text request = record {
@@ -50,12 +57,21 @@ is_command rows name = option_map_or (λ word. bytes_eq word name) (given rows (
 abbrev pub runs_file : List Row → Bool
 runs_file rows = is_command rows (codes "run") || is_command rows (codes "step")
 
+-- the command is one of the three
+abbrev pub has_command : List Row → Bool
+has_command rows = runs_file rows || is_command rows (codes "gen")
+
 abbrev pub file_in : List Row → Option Text
 file_in rows = given rows (codes "file")
 
 -- there is a file exactly where the command runs one
 abbrev pub has_right_file : List Row → Bool
 has_right_file rows = if runs_file rows then is_some (file_in rows) else not (is_some (file_in rows))
+
+-- the first fault of the command and its file
+unfoldable pub work_fault : List Row → Option UsageFault
+work_fault rows = if not (has_command rows) then Some fault.Command
+    else (if not (has_right_file rows) then Some fault.File else None)
 
 -- there is no plan, or its text is one
 unfoldable pub has_plan : List Row → Bool
@@ -68,21 +84,27 @@ plan_in rows = option_map_or turns_of (given rows (codes "plan")) []
 -- the first fault of what was read in the words
 unfoldable pub fault_in : List Row → Option UsageFault
 fault_in rows =
-    if not (runs_file rows || is_command rows (codes "gen")) then Some fault.Command
+    if not (has_command rows) then Some fault.Command
     else (if not (has_right_file rows) then Some fault.File
     else (if not (has_numbers rows) then Some fault.Number
     else (if not (has_plan rows) then Some fault.Plan
     else (if nat_lt (number rows slots) (number rows harts) then Some fault.FewSlots
     else None))))
 
-abbrev pub task_in : List Row → TaskText
-task_in rows = if is_command rows (codes "run") then run (unwrap_or (file_in rows) [])
+-- what is to be done, with these numbers for what makes an executable
+unfoldable pub task_with : List Row → ℕ → ℕ → TaskText
+task_with rows s z = if is_command rows (codes "run") then run (unwrap_or (file_in rows) [])
     else (if is_command rows (codes "step") then step (unwrap_or (file_in rows) [])
-    else generate (number rows seed) (number rows size))
+    else generate s z)
+
+-- the work is what the command does with its file, or they have this first fault
+abbrev pub Works : List Row → Result Work UsageFault → Type 0
+Works rows (Ok w) = (work_fault rows ≡ None) × ((s z : ℕ) → work_task w s z ≡ task_with rows s z)
+Works rows (Err f) = work_fault rows ≡ Some f
 
 abbrev pub request_in : List Row → RequestText
 request_in rows = record {
-  task = task_in rows;
+  task = task_with rows (number rows seed) (number rows size);
   limits = limits_in rows;
   plan = plan_in rows;
   suppressions = given rows (codes "suppressions");

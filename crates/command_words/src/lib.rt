@@ -4,6 +4,7 @@
 mod command;
 mod numbers;
 mod plans;
+mod reader;
 mod request;
 
 pub use request::{Refusal, Request, Task, UsageFault};

@@ -1,7 +1,7 @@
 // The text of a plan.
-ghost use Rattle.std.specs.Prelude.{◌≡◌, true, false, IfOk, IfErr, length, map};
+ghost use Rattle.std.specs.Prelude.{◌≡◌, true, IfOk, IfErr, map};
 ghost use Rattle.command_words.specs.Plans as spec;
-ghost use Rattle.command_words.specs.Plans.{is_plan, pieces_of, turns_of};
+ghost use Rattle.command_words.specs.Plans.{is_plan, turns_of};
 ghost use Rattle.command_words.specs.Requests.{IsRefusal};
 
 use crate::numbers::number_of;
@@ -39,10 +39,10 @@ pub fn read_plan(alloc: Global, text: &str) -> Result<Plan, Refusal>
     }
     let mut turns = Items::new(alloc);
     for piece in &pieces {
-        let Some(turn) = turn_of(piece) else {
-            return Err(Refusal::Usage(UsageFault::Plan));
-        };
-        turns.push(turn)?;
+        match turn_of(piece) {
+            Some(turn) => turns.push(turn)?,
+            None => return Err(Refusal::Usage(UsageFault::Plan)),
+        }
     }
     Ok(turns)
 }
