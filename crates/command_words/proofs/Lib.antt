@@ -2,3 +2,5 @@ mod Taken
 mod NumberLaws
 mod PlanLaws
 mod RequestLaws
+mod EachOption
+pub mod OnLiterals

@@ -83,3 +83,15 @@ limits_in rows = record {
   parts = number rows parts;
   part_words = number rows part_words;
 }
+
+-- the limits where the words give none
+abbrev pub default_limits : Limits
+default_limits = record {
+  harts = harts.default;
+  slots = slots.default;
+  epochs = epochs.default;
+  steps = steps.default;
+  quantum = quantum.default;
+  parts = parts.default;
+  part_words = part_words.default;
+}
