@@ -1,5 +1,5 @@
 -- How the number that a text writes is read.
-use Rattle.std.proofs.Common.{ℕ, ◌≡◌, ◌≤◌, ◌<◌, ◌^◌, ◌∙◌, ◌&&◌, Bool, true≢false, inl, inr, zero, suc, [], ◌∷◌, true, false, if◌then◌else◌, List, Option, Some, None, Result, Ok, Err, ap, arith, length, refl, rules, sym, nat_le, le-leb, leb-true}
+use Rattle.std.proofs.Common.{ℕ, ◌≡◌, ◌≤◌, ◌<◌, ◌^◌, ◌&&◌, Bool, true≢false, inl, inr, zero, suc, [], ◌∷◌, true, false, if◌then◌else◌, List, Option, Some, None, Ok, Err, ap, arith, length, refl, rules, sym, nat_le, leb-true}
 use Rattle.std.specs.Char.{is_ascii_digit}
 use Rattle.std.specs.List.{list_all, slice_index_or}
 use Rattle.std.specs.Option.{IfNone, is_some, option_map_or, unwrap_or}

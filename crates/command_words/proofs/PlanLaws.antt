@@ -1,5 +1,5 @@
 -- How a plan's text is read.
-use Rattle.std.proofs.Common.{ℕ, ◌≡◌, ◌≤◌, ◌<◌, ◌+◌, ◌∙◌, ◌&&◌, Bool, true, false, List, [], ◌∷◌, ◌++◌, Option, Some, None, ap, ap₂, arith, drop, get_or, length, refl, rules, sym, take, take_all, Bor, map, drop_of_length-le, le-leb, nat_le}
+use Rattle.std.proofs.Common.{ℕ, ◌≡◌, ◌≤◌, ◌<◌, ◌+◌, ◌∙◌, ◌&&◌, Bool, true, false, List, [], ◌∷◌, ◌++◌, Option, Some, None, ap, ap₂, arith, get_or, length, refl, sym, take, take_all, Bor, map, drop_of_length-le, le-leb, nat_le}
 use Rattle.std.specs.List.{after_first, before_first, cons_option, filter_map, list_all, position_or_len}
 use Rattle.std.specs.Option.{is_some}
 use Rattle.std.proofs.lemmas.Bool.Decides.{nat_tests}

@@ -1,5 +1,5 @@
 -- From what was read in the words to a request.
-use Rattle.std.proofs.Common.{ℕ, ◌≡◌, ◌≤◌, ◌<◌, ◌∙◌, ◌⊎◌, inl, inr, Bool, true, false, List, [], Option, Some, None, Result, Ok, Err, ap, arith, codes, lit<, lit≤, lt-ltb, le-ltb, ltb-false, if◌then◌else◌, not, nat_lt, refl, subst, sym, IfOk}
+use Rattle.std.proofs.Common.{◌≡◌, ◌≤◌, ◌<◌, ◌∙◌, inl, inr, Bool, true, false, List, [], Option, Some, None, Result, Ok, Err, ap, codes, lit<, lit≤, lt-ltb, le-ltb, ltb-false, if◌then◌else◌, not, nat_lt, refl, subst, sym, IfOk}
 use Rattle.clap.specs.Walk.{Row, Text}
 use Rattle.run_record.specs.declared.limits.Limits.{Limits}
 use Rattle.run_record.specs.declared.plan.Turn.{Turn}

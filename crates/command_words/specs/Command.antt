@@ -1,5 +1,5 @@
 -- The command of `clap` that reads the words of the command line.
-use Rattle.std.specs.Prelude.{◌≡◌, Bool, true, List, [], ◌∷◌, Option, Some, codes, fold}
+use Rattle.std.specs.Prelude.{Bool, true, List, [], ◌∷◌, Some, codes, fold}
 use Rattle.clap.specs.Matches.{found_of}
 use Rattle.clap.specs.Walk.{Row, Rule, Text, is_empty, rows_of}
 use Rattle.clap.specs.declared.parser.matches.ArgMatches.{ArgMatches}

@@ -1,5 +1,5 @@
 -- The text of a plan.
-use Rattle.std.specs.Prelude.{ℕ, ◌==◌, ◌&&◌, Bool, List, [], Option, Some, None, is_some, length, nat_le}
+use Rattle.std.specs.Prelude.{ℕ, ◌==◌, ◌&&◌, Bool, List, Option, Some, None, is_some, length, nat_le}
 use Rattle.std.specs.List.{after_first, before_first, filter_map, list_all, slice_split}
 use Rattle.clap.specs.Walk.{Text}
 use Rattle.run_record.specs.declared.plan.Turn.{Turn}

@@ -16,35 +16,30 @@ pub fn refused_words()
     ensures help { request_of (codes "step" ∷ codes "--help" ∷ []) ≡ Err UsageFault.Words }
     ensures short_help { request_of (codes "-h" ∷ []) ≡ Err UsageFault.Words }
     ensures third { request_of (codes "step" ∷ codes "a" ∷ codes "b" ∷ []) ≡ Err UsageFault.Words }
-{
-}
+{}
 
 /// No option is given twice, whatever its texts.
 pub fn no_option_twice()
     ensures { All (λ name. (text other : List ℕ) → request_of ((codes "--" ++ name ++ codes "=" ++ text)
         ∷ codes "gen" ∷ (codes "--" ++ name ++ codes "=" ++ other) ∷ []) ≡ Err UsageFault.Words) option_names }
-{
-}
+{}
 
 /// `--name=TEXT` and `--name TEXT` are the same, of each option, at a text of digits.
 pub fn two_spellings()
     ensures { All (λ name. request_of (codes "gen" ∷ (codes "--" ++ name ++ codes "=100") ∷ [])
         ≡ request_of (codes "gen" ∷ (codes "--" ++ name) ∷ codes "100" ∷ [])) option_names }
-{
-}
+{}
 
 /// Behind `=` stands any text, and behind `--` any file.
 pub fn any_text()
     ensures { (file rules : List ℕ) → request_of (codes "step" ∷ (codes "--suppressions=" ++ rules) ∷ codes "--" ∷ file ∷ [])
         ≡ Ok (record { task = step file; limits = default_limits; plan = []; suppressions = Some rules }) }
-{
-}
+{}
 
 /// A command alone takes the defaults.
 pub fn defaults()
     ensures { request_of (codes "gen" ∷ []) ≡ Ok (record { task = generate 1 1000; limits = default_limits; plan = []; suppressions = None }) }
-{
-}
+{}
 
 /// Of several faults the first in the order of the tests is told.
 pub fn first_faults()
@@ -53,5 +48,4 @@ pub fn first_faults()
     ensures number { request_of (codes "gen" ∷ codes "--harts=9" ∷ codes "--slots=8" ∷ codes "--plan=" ∷ codes "--size=10001" ∷ []) ≡ Err UsageFault.Number }
     ensures plan { request_of (codes "gen" ∷ codes "--harts=9" ∷ codes "--slots=8" ∷ codes "--plan=0:1," ∷ []) ≡ Err UsageFault.Plan }
     ensures slots { request_of (codes "gen" ∷ codes "--harts=9" ∷ codes "--slots=8" ∷ codes "--plan=0:1" ∷ []) ≡ Err UsageFault.FewSlots }
-{
-}
+{}

@@ -12,6 +12,8 @@ mod numbers;
 mod plans;
 mod reader;
 mod request;
+#[cfg(test)]
+mod tests;
 
 pub use reader::read_words;
 pub use request::{Refusal, Request, Task, UsageFault};

@@ -53,13 +53,7 @@ pub fn number_of(text: &str, digits: usize, least: u32, most: u32) -> Option<u32
 
 /// The number of an option: the one that the words give, or the default where they give none;
 /// `None` where their text is out of form or of range.
-fn number(
-    matches: &ArgMatches,
-    name: &str,
-    least: u32,
-    most: u32,
-    default: u32,
-) -> Option<u32>
+fn number(matches: &ArgMatches, name: &str, least: u32, most: u32, default: u32) -> Option<u32>
     requires { (least ≤ default) × (default ≤ most) }
     ensures value { result ≡ spec.number_in (rows_read matches.now)
         (record { name = name.now; least = least; most = most; default = default }) }

@@ -1,6 +1,4 @@
 use Rattle.std.proofs.Common.{◌∙◌, inr, refl}
-use Rattle.clap.specs.declared.error.kind.ErrorKind.TheVariants as kind
-use Rattle.clap.specs.Values.{kind_of}
 use Rattle.command_words.proofs.Taken.{matched, not_taken, taken}
 use Rattle.command_words.proofs.command.parse.Goals as goal
 

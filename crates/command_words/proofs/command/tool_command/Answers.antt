@@ -1,4 +1,4 @@
-use Rattle.std.proofs.Common.{rules, ap, ap₂, refl, fold, map, codes, true, ◌≡◌, ◌∙◌}
+use Rattle.std.proofs.Common.{rules, ap₂, refl, fold, map, codes, ◌≡◌, ◌∙◌}
 use Rattle.std.proofs.lemmas.Result.{IfOk-weaker}
 use Rattle.clap.specs.Words.{app_of, rule_of}
 use Rattle.clap.specs.Simple.{App, new_rule, with_rule}

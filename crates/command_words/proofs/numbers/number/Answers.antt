@@ -1,4 +1,3 @@
-use Rattle.std.proofs.Common.{◌∙◌, sym}
 use Rattle.command_words.proofs.NumberLaws.{no_text, text_of_option}
 use Rattle.command_words.specs.Command.{rows_read}
 use Rattle.command_words.proofs.numbers.number.Goals as goal

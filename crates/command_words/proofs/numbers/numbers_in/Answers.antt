@@ -33,14 +33,13 @@ returns-in_err-size-clause-none c = if_none _ _ (lacks_number (rows_read c.args.
 pub returns-clause-some : goal.returns-clause-some
 returns-clause-some c =
     has_all (rows_read c.args.matches.now)
-    (record { harts = c.in_ok-harts.harts; slots = c.in_ok-slots.slots; epochs = c.in_ok-epochs.epochs; steps = c.in_ok-steps.steps; quantum = c.in_ok-quantum.quantum; parts = c.in_ok-parts.parts; part_words = c.in_ok-part_words.part_words; })
+    (record { harts = c.in_ok-harts.harts; slots = c.in_ok-slots.slots; epochs = c.in_ok-epochs.epochs; steps = c.in_ok-steps.steps; quantum = c.in_ok-quantum.quantum; parts = c.in_ok-parts.parts; part_words = c.in_ok-part_words.part_words })
     c.in_ok-seed.seed c.in_ok-size.size
-    (record { harts_is = c.in_ok-harts.ensures.value; slots_is = c.in_ok-slots.ensures.value; epochs_is = c.in_ok-epochs.ensures.value; steps_is = c.in_ok-steps.ensures.value; quantum_is = c.in_ok-quantum.ensures.value; parts_is = c.in_ok-parts.ensures.value; part_words_is = c.in_ok-part_words.ensures.value; seed_is = c.in_ok-seed.ensures.value; size_is = c.in_ok-size.ensures.value; })
+    (record { harts_is = c.in_ok-harts.ensures.value; slots_is = c.in_ok-slots.ensures.value; epochs_is = c.in_ok-epochs.ensures.value; steps_is = c.in_ok-steps.ensures.value; quantum_is = c.in_ok-quantum.ensures.value; parts_is = c.in_ok-parts.ensures.value; part_words_is = c.in_ok-part_words.ensures.value; seed_is = c.in_ok-seed.ensures.value; size_is = c.in_ok-size.ensures.value })
 
 pub returns-clause-limits : goal.returns-clause-limits
 returns-clause-limits c =
     limits_are (rows_read c.args.matches.now)
-    (record { harts = c.in_ok-harts.harts; slots = c.in_ok-slots.slots; epochs = c.in_ok-epochs.epochs; steps = c.in_ok-steps.steps; quantum = c.in_ok-quantum.quantum; parts = c.in_ok-parts.parts; part_words = c.in_ok-part_words.part_words; })
+    (record { harts = c.in_ok-harts.harts; slots = c.in_ok-slots.slots; epochs = c.in_ok-epochs.epochs; steps = c.in_ok-steps.steps; quantum = c.in_ok-quantum.quantum; parts = c.in_ok-parts.parts; part_words = c.in_ok-part_words.part_words })
     c.in_ok-seed.seed c.in_ok-size.size
-    (record { harts_is = c.in_ok-harts.ensures.value; slots_is = c.in_ok-slots.ensures.value; epochs_is = c.in_ok-epochs.ensures.value; steps_is = c.in_ok-steps.ensures.value; quantum_is = c.in_ok-quantum.ensures.value; parts_is = c.in_ok-parts.ensures.value; part_words_is = c.in_ok-part_words.ensures.value; seed_is = c.in_ok-seed.ensures.value; size_is = c.in_ok-size.ensures.value; })
-
+    (record { harts_is = c.in_ok-harts.ensures.value; slots_is = c.in_ok-slots.ensures.value; epochs_is = c.in_ok-epochs.ensures.value; steps_is = c.in_ok-steps.ensures.value; quantum_is = c.in_ok-quantum.ensures.value; parts_is = c.in_ok-parts.ensures.value; part_words_is = c.in_ok-part_words.ensures.value; seed_is = c.in_ok-seed.ensures.value; size_is = c.in_ok-size.ensures.value })

@@ -1,4 +1,4 @@
-use Rattle.std.proofs.Common.{sym, subst, map, string_bytes, Result}
+use Rattle.std.proofs.Common.{subst, map, string_bytes, Result}
 use Rattle.command_words.specs.Command.{is_taken}
 use Rattle.command_words.specs.Requests.{RequestText, Tells, request_of}
 use Rattle.command_words.specs.declared.request.UsageFault.{UsageFault}
