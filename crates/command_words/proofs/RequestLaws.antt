@@ -7,8 +7,10 @@ use Rattle.command_words.specs.Numbers.{given, harts, has_numbers, limits_in, nu
 use Rattle.command_words.specs.Plans.{is_plan, turns_of}
 use Rattle.command_words.specs.Command.{is_taken, matches}
 use Rattle.command_words.proofs.NumberLaws.{number_range}
+use Rattle.command_words.proofs.PlanLaws.{are_turns, no_turns}
+use Rattle.std.specs.Option.{option_map_or}
 use Rattle.command_words.specs.declared.request.Request.{Request}
-use Rattle.command_words.specs.Requests.{AreLimits, IsRefusal, RequestText, TaskText, task_with, request_of, request_text, Tells, fault_in, has_command, has_plan, has_right_file, ok_unless, plan_in, request_from, request_in, work_fault}
+use Rattle.command_words.specs.Requests.{AreLimits, AreTurns, IsRefusal, RequestText, TaskText, task_with, request_of, request_text, Tells, fault_in, has_command, has_plan, has_right_file, ok_unless, plan_in, request_from, request_in, work_fault}
 use Rattle.command_words.specs.declared.request.Refusal.{Refusal}
 use Rattle.command_words.specs.declared.request.UsageFault.{UsageFault}
 use Rattle.command_words.specs.declared.request.UsageFault.TheVariants as fault
@@ -173,23 +175,35 @@ faultless : (o : Option UsageFault) (value request : RequestText) → ok_unless 
 faultless None value request h = (refl, cc)
 faultless (Some f) value request h = cc
 
-all_pass : (a b c d e : Bool) → first_fault a b c d e ≡ None → (c ≡ true) × (e ≡ false)
-all_pass true true true true false h = (refl, refl)
+all_pass : (a b c d e : Bool) → first_fault a b c d e ≡ None → (c ≡ true) × (d ≡ true) × (e ≡ false)
+all_pass true true true true false h = (refl, refl, refl)
 all_pass true true true true true h = cc
 all_pass true true true false e h = cc
 all_pass true true false d e h = cc
 all_pass true false c d e h = cc
 all_pass false b c d e h = cc
 
--- the limits of an accepted request are in their ranges
-pub accepted : (words : List Text) (request : RequestText) → request_of words ≡ Ok request → AreLimits request.limits
+turns_read : (rows : List Row) → has_plan rows ≡ true → AreTurns (plan_in rows)
+unfolding has_plan plan_in
+turns_read rows h = chosen (given rows (codes "plan")) h
+  where
+    chosen : (o : Option Text) → option_map_or is_plan o true ≡ true → AreTurns (option_map_or turns_of o [])
+    chosen None e = no_turns
+    chosen (Some text) e = are_turns text e
+
+-- an accepted request's numbers are in their ranges
+pub accepted : (words : List Text) (request : RequestText) → request_of words ≡ Ok request → AreLimits request.limits × AreTurns request.plan
 unfolding request_of request_from
 accepted words request h =
     let rows = matches words in
     let parts = faultless (fault_in rows) (request_in rows) request (taken_only (is_taken words) (request_from rows) request h) in
     let known = all_pass _ _ _ _ _ (sym (fault_is rows) ∙ parts.0) in
-    subst (λ (r : RequestText). AreLimits r.limits) parts.1 (are_limits rows known.0 known.1)
+    (subst (λ (r : RequestText). AreLimits r.limits) parts.1 (are_limits rows known.0 known.2), subst (λ (r : RequestText). AreTurns r.plan) parts.1 (turns_read rows known.1))
 
 pub limits_told : (words : List Text) (result : Result Request Refusal) → Tells (request_of words) result → IfOk result (λ request. AreLimits request.limits)
-limits_told words (Ok request) h = accepted words (request_text request) h
+limits_told words (Ok request) h = (accepted words (request_text request) h).0
 limits_told words (Err refusal) h = tt
+
+pub plan_told : (words : List Text) (result : Result Request Refusal) → Tells (request_of words) result → IfOk result (λ request. AreTurns request.plan)
+plan_told words (Ok request) h = (accepted words (request_text request) h).1
+plan_told words (Err refusal) h = tt
