@@ -18,7 +18,7 @@ are_digits = search rules
 decimal : IsNumeralModel (λ text. list_all is_ascii_digit text ≡ true) (digits_value 10)
 decimal = numerals_by_value _ are_digits
 
-both : (a b : Bool) → (a && b) ≡ true → (a ≡ true) × (b ≡ true)
+pub both : (a b : Bool) → (a && b) ≡ true → (a ≡ true) × (b ≡ true)
 both true b e = (refl, e)
 both false b e = absurd (true≢false (sym e))
 
@@ -100,7 +100,7 @@ limits_are rows n r z h =
 
 -- ---- ranges
 
-number_of_range : (digits least most n : ℕ) (text : Text) → number_of digits least most text ≡ Some n → (least ≤ n) × (n ≤ most)
+pub number_of_range : (digits least most n : ℕ) (text : Text) → number_of digits least most text ≡ Some n → (least ≤ n) × (n ≤ most)
 unfolding number_of
 number_of_range digits least most n text h = chosen (is_numeral digits text) (is_between least most (digits_value 10 text)) refl h
   where

@@ -1,14 +1,17 @@
 -- How a plan's text is read.
-use Rattle.std.proofs.Common.{ℕ, ◌≡◌, ◌≤◌, ◌<◌, ◌+◌, ◌∙◌, ◌&&◌, Bool, true, false, List, [], ◌∷◌, ◌++◌, Option, Some, None, ap, ap₂, arith, get_or, length, refl, sym, take, take_all, Bor, map, drop_of_length-le, le-leb, nat_le}
-use Rattle.std.specs.List.{after_first, before_first, cons_option, filter_map, list_all, position_or_len}
+use Rattle.std.proofs.Common.{ℕ, ◌≡◌, ◌≤◌, ◌<◌, ◌+◌, ◌∙◌, ◌&&◌, Bool, true, false, List, [], ◌∷◌, ◌++◌, Option, Some, None, ap, ap₂, arith, get_or, length, refl, sym, take, take_all, Bor, map, drop_of_length-le, le-leb, nat_le, leb-true, subst}
+use Rattle.std.specs.List.{All, after_first, before_first, cons_option, filter_map, list_all, position_or_len}
 use Rattle.std.specs.Option.{is_some}
 use Rattle.std.proofs.lemmas.Bool.Decides.{nat_tests}
 use Rattle.std.proofs.lemmas.List.{get_or-map, length-map, take_more}
 use Rattle.std.proofs.lemmas.List.Elements.{filter_map-append}
+use Rattle.std.proofs.lemmas.List.Elements.{All-cons, All-nil}
 use Rattle.std.proofs.lemmas.List.Folds.{list_all_at, list_all_more}
 use Rattle.clap.specs.Walk.{Text}
 use Rattle.run_record.specs.declared.plan.Turn.{Turn}
+use Rattle.command_words.proofs.NumberLaws.{both, number_of_range}
 use Rattle.command_words.specs.Numbers.{number_of}
+use Rattle.command_words.specs.Requests.{AreTurns, IsTurn}
 use Rattle.command_words.specs.Plans.{is_colon, is_plan, pieces_of, turn_from, turn_of, turns_of}
 
 -- ---- one turn
@@ -96,3 +99,48 @@ no_turn text items i d are lt is =
     let inside : i < length pieces = rw (length-map items (λ (piece : Bor Text). piece.now)) lt in
     let none : None ≡ turn_of (get_or pieces i []) = is ∙ ap turn_of (sym (get_or-map (λ (piece : Bor Text). piece.now) items i d [] lt)) in
     right_false _ _ (ap (list_all is_turn) (sym are) ∙ list_all_at is_turn pieces i [] inside (ap is_some (sym none)))
+
+-- ---- ranges
+
+turn_in_range : (tid steps : Option ℕ) (turn : Turn) → ((n : ℕ) → tid ≡ Some n → (0 ≤ n) × (n ≤ 1023)) → ((n : ℕ) → steps ≡ Some n → (1 ≤ n) × (n ≤ 8000000))
+    → turn_from tid steps ≡ Some turn → IsTurn turn
+turn_in_range None steps turn low high h = cc
+turn_in_range (Some n) None turn low high h = cc
+turn_in_range (Some n) (Some m) turn low high h =
+    let same : ◌≡◌ {A = Turn} (record { tid = n; steps = m }) turn = cc in
+    subst IsTurn same (record { few_threads = (low n refl).1; some_steps = (high m refl).0; few_steps = (high m refl).1 })
+
+is_in_range : (text : Text) (turn : Turn) → turn_of text ≡ Some turn → IsTurn turn
+unfolding turn_of
+is_in_range text turn h =
+    turn_in_range (number_of 4 0 1023 (before_first is_colon text)) (number_of 8 1 8000000 (after_first is_colon text)) turn
+    (λ n e. number_of_range 4 0 1023 n (before_first is_colon text) e) (λ n e. number_of_range 8 1 8000000 n (after_first is_colon text) e) h
+
+one_in_range : (o : Option Turn) (rest : List Turn) → ((turn : Turn) → o ≡ Some turn → IsTurn turn) → All IsTurn rest → All IsTurn (cons_option o rest)
+one_in_range None rest one others = others
+one_in_range (Some turn) rest one others = All-cons IsTurn turn rest (one turn refl) others
+
+each_in_range : (pieces : List Text) → All IsTurn (filter_map turn_of pieces)
+each_in_range [] = All-nil IsTurn
+each_in_range (piece ∷ rest) = one_in_range (turn_of piece) (filter_map turn_of rest) (is_in_range piece) (each_in_range rest)
+
+one_at_most : (o : Option Turn) (rest : List Turn) (n : ℕ) → length rest ≤ n → length (cons_option o rest) ≤ n + 1
+one_at_most None rest n h = omega arith
+one_at_most (Some turn) rest n h = omega arith
+
+no_more : (pieces : List Text) → length (filter_map turn_of pieces) ≤ length pieces
+no_more [] = omega arith
+no_more (piece ∷ rest) =
+    let h = one_at_most (turn_of piece) (filter_map turn_of rest) (length rest) (no_more rest) in
+    omega (arith, h)
+
+-- the turns of a plan's text are in their ranges
+pub are_turns : (text : Text) → is_plan text ≡ true → AreTurns (turns_of text)
+unfolding is_plan turns_of
+are_turns text h =
+    let few : length (pieces_of text) ≤ 4096 = leb-true _ _ (both (nat_le (length (pieces_of text)) 4096) _ h).0 in
+    let less : length (filter_map turn_of (pieces_of text)) ≤ length (pieces_of text) = no_more (pieces_of text) in
+    record { few = omega arith; each = each_in_range (pieces_of text) }
+
+pub no_turns : AreTurns []
+no_turns = record { few = omega arith; each = All-nil IsTurn }

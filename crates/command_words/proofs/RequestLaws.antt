@@ -1,5 +1,5 @@
 -- From what was read in the words to a request.
-use Rattle.std.proofs.Common.{◌≡◌, ◌≤◌, ◌<◌, ◌∙◌, inl, inr, Bool, true, false, List, [], Option, Some, None, Result, Ok, Err, ap, codes, lit<, lit≤, lt-ltb, le-ltb, ltb-false, if◌then◌else◌, not, nat_lt, refl, subst, sym, IfOk, ℕ}
+use Rattle.std.proofs.Common.{◌≡◌, ℕ, ◌≤◌, ◌<◌, ◌∙◌, inl, inr, Bool, true, false, List, [], Option, Some, None, Result, Ok, Err, ap, codes, lit<, lit≤, lt-ltb, le-ltb, ltb-false, if◌then◌else◌, not, nat_lt, refl, subst, sym, IfOk}
 use Rattle.clap.specs.Walk.{Row, Text}
 use Rattle.run_record.specs.declared.limits.Limits.{Limits}
 use Rattle.run_record.specs.declared.plan.Turn.{Turn}
@@ -7,9 +7,11 @@ use Rattle.command_words.specs.Numbers.{given, harts, has_numbers, limits_in, nu
 use Rattle.command_words.specs.Plans.{is_plan, turns_of}
 use Rattle.command_words.specs.Command.{is_taken, matches}
 use Rattle.command_words.proofs.NumberLaws.{number_range}
+use Rattle.command_words.proofs.PlanLaws.{are_turns, no_turns}
+use Rattle.std.specs.Option.{option_map_or}
 use Rattle.command_words.specs.declared.request.Request.{Request}
 use Rattle.std.specs.Prelude.{unwrap_or}
-use Rattle.command_words.specs.Requests.{AreLimits, IsTask, run, step, generate, is_command, file_in, task_text, IsRefusal, RequestText, TaskText, task_with, request_of, request_text, Tells, fault_in, has_command, has_plan, has_right_file, ok_unless, plan_in, request_from, request_in, work_fault}
+use Rattle.command_words.specs.Requests.{AreLimits, IsTask, run, step, generate, is_command, file_in, task_text, AreTurns, IsRefusal, RequestText, TaskText, task_with, request_of, request_text, Tells, fault_in, has_command, has_plan, has_right_file, ok_unless, plan_in, request_from, request_in, work_fault}
 use Rattle.command_words.specs.declared.request.Refusal.{Refusal}
 use Rattle.command_words.specs.declared.request.UsageFault.{UsageFault}
 use Rattle.command_words.specs.declared.request.UsageFault.TheVariants as fault
@@ -174,28 +176,21 @@ faultless : (o : Option UsageFault) (value request : RequestText) → ok_unless 
 faultless None value request h = (refl, cc)
 faultless (Some f) value request h = cc
 
-all_pass : (a b c d e : Bool) → first_fault a b c d e ≡ None → (c ≡ true) × (e ≡ false)
-all_pass true true true true false h = (refl, refl)
+all_pass : (a b c d e : Bool) → first_fault a b c d e ≡ None → (c ≡ true) × (d ≡ true) × (e ≡ false)
+all_pass true true true true false h = (refl, refl, refl)
 all_pass true true true true true h = cc
 all_pass true true true false e h = cc
 all_pass true true false d e h = cc
 all_pass true false c d e h = cc
 all_pass false b c d e h = cc
 
--- the limits of an accepted request are in their ranges
-pub accepted : (words : List Text) (request : RequestText) → request_of words ≡ Ok request → AreLimits request.limits
-unfolding request_of request_from
-accepted words request h =
-    let rows = matches words in
-    let parts = faultless (fault_in rows) (request_in rows) request (taken_only (is_taken words) (request_from rows) request h) in
-    let known = all_pass _ _ _ _ _ (sym (fault_is rows) ∙ parts.0) in
-    subst (λ (r : RequestText). AreLimits r.limits) parts.1 (are_limits rows known.0 known.1)
-
-pub limits_told : (words : List Text) (result : Result Request Refusal) → Tells (request_of words) result → IfOk result (λ request. AreLimits request.limits)
-limits_told words (Ok request) h = accepted words (request_text request) h
-limits_told words (Err refusal) h = tt
-
--- ---- tasks
+turns_read : (rows : List Row) → has_plan rows ≡ true → AreTurns (plan_in rows)
+unfolding has_plan plan_in
+turns_read rows h = chosen (given rows (codes "plan")) h
+  where
+    chosen : (o : Option Text) → option_map_or is_plan o true ≡ true → AreTurns (option_map_or turns_of o [])
+    chosen None e = no_turns
+    chosen (Some text) e = are_turns text e
 
 either_task : (runs steps : Bool) (file : Text) (s z : ℕ) → z ≤ 10000 → IsTask (if runs then run file else (if steps then step file else generate s z))
 either_task true steps file s z few = tt
@@ -208,15 +203,23 @@ is_task rows numbers =
     either_task (is_command rows (codes "run")) (is_command rows (codes "step")) (unwrap_or (file_in rows) []) (number rows seed) (number rows size)
     (number_range rows numbers 8 (lit< tt) (lit≤ tt) (lit≤ tt)).1
 
--- an accepted request's task can be done
-pub accepted_task : (words : List Text) (request : RequestText) → request_of words ≡ Ok request → IsTask request.task
+-- an accepted request's numbers are in their ranges
+pub accepted : (words : List Text) (request : RequestText) → request_of words ≡ Ok request → AreLimits request.limits × AreTurns request.plan × IsTask request.task
 unfolding request_of request_from
-accepted_task words request h =
+accepted words request h =
     let rows = matches words in
     let parts = faultless (fault_in rows) (request_in rows) request (taken_only (is_taken words) (request_from rows) request h) in
     let known = all_pass _ _ _ _ _ (sym (fault_is rows) ∙ parts.0) in
-    subst (λ (r : RequestText). IsTask r.task) parts.1 (is_task rows known.0)
+    (subst (λ (r : RequestText). AreLimits r.limits) parts.1 (are_limits rows known.0 known.2), subst (λ (r : RequestText). AreTurns r.plan) parts.1 (turns_read rows known.1), subst (λ (r : RequestText). IsTask r.task) parts.1 (is_task rows known.0))
+
+pub limits_told : (words : List Text) (result : Result Request Refusal) → Tells (request_of words) result → IfOk result (λ request. AreLimits request.limits)
+limits_told words (Ok request) h = (accepted words (request_text request) h).0
+limits_told words (Err refusal) h = tt
+
+pub plan_told : (words : List Text) (result : Result Request Refusal) → Tells (request_of words) result → IfOk result (λ request. AreTurns request.plan)
+plan_told words (Ok request) h = (accepted words (request_text request) h).1
+plan_told words (Err refusal) h = tt
 
 pub task_told : (words : List Text) (result : Result Request Refusal) → Tells (request_of words) result → IfOk result (λ request. IsTask (task_text request.task))
-task_told words (Ok request) h = accepted_task words (request_text request) h
+task_told words (Ok request) h = (accepted words (request_text request) h).2
 task_told words (Err refusal) h = tt

@@ -1,5 +1,5 @@
 -- What the words of the command line ask for, or why they are refused.
-use Rattle.std.specs.Prelude.{ℕ, ◌≡◌, ◌≤◌, ◌⊎◌, ◌||◌, Bool, true, false, not, List, [], Option, Some, None, Result, Ok, Err, codes, is_some, nat_lt, unwrap_or, option_map, if◌then◌else◌}
+use Rattle.std.specs.Prelude.{ℕ, ◌≡◌, ◌≤◌, ◌⊎◌, ◌||◌, Bool, true, false, not, List, [], Option, Some, None, Result, Ok, Err, All, codes, is_some, length, nat_lt, unwrap_or, option_map, if◌then◌else◌}
 use Rattle.std.specs.Option.{option_map_or}
 use Rattle.std.specs.Str.{bytes_eq}
 use Rattle.clap.specs.Walk.{Row, Text}
@@ -154,3 +154,14 @@ pub record AreLimits (limits : Limits) : Type 0 where
   pub most_parts : limits.parts ≤ 64
   pub least_words : 64 ≤ limits.part_words
   pub most_words : limits.part_words ≤ 4096
+
+-- the turn's thread and its instructions are in their ranges
+pub record IsTurn (turn : Turn) : Type 0 where
+  pub few_threads : turn.tid ≤ 1023
+  pub some_steps : 1 ≤ turn.steps
+  pub few_steps : turn.steps ≤ 8000000
+
+-- the plan's turns are in their ranges, and not too many
+pub record AreTurns (plan : List Turn) : Type 0 where
+  pub few : length plan ≤ 4096
+  pub each : All IsTurn plan

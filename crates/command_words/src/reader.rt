@@ -2,7 +2,7 @@
 ghost use Rattle.std.specs.Prelude.{◌≡◌, ℕ, true, None, Some, IfOk, IfErr, map, string_bytes};
 ghost use Rattle.command_words.specs.Command.{rows_read};
 ghost use Rattle.command_words.specs.Requests as spec;
-ghost use Rattle.command_words.specs.Requests.{AreLimits, IsRefusal, IsTask, Tells, has_plan, request_from, request_of, task_text, task_with, work_fault, work_task};
+ghost use Rattle.command_words.specs.Requests.{AreLimits, AreTurns, IsRefusal, IsTask, Tells, has_plan, request_from, request_of, task_text, task_with, work_fault, work_task};
 
 use crate::command::{parse, text_given};
 use crate::numbers::numbers_in;
@@ -127,6 +127,7 @@ fn request_in<'a>(alloc: Global, matches: &ArgMatches<'a>) -> Result<Request<'a>
 pub fn read_words<'a>(alloc: Global, words: &'a [String]) -> Result<Request<'a>, Refusal>
     ensures told { Tells (request_of (map string_bytes words.entry.now)) result }
     ensures limits { IfOk result (λ request. AreLimits request.limits) }
+    ensures plan { IfOk result (λ request. AreTurns request.plan) }
     ensures task { IfOk result (λ request. IsTask (task_text request.task)) }
 {
     match parse(alloc, words) {
