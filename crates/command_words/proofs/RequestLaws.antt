@@ -10,7 +10,8 @@ use Rattle.command_words.proofs.NumberLaws.{number_range}
 use Rattle.command_words.proofs.PlanLaws.{are_turns, no_turns}
 use Rattle.std.specs.Option.{option_map_or}
 use Rattle.command_words.specs.declared.request.Request.{Request}
-use Rattle.command_words.specs.Requests.{AreLimits, AreTurns, IsRefusal, RequestText, TaskText, task_with, request_of, request_text, Tells, fault_in, has_command, has_plan, has_right_file, ok_unless, plan_in, request_from, request_in, work_fault}
+use Rattle.command_words.specs.Requests.{AreLimits, AreTurns, RequestText, TaskText, task_with, request_of, request_text, Tells, fault_in, has_command, has_plan, has_right_file, ok_unless, plan_in, request_from, request_in}
+use Rattle.command_words.specs.Parts.{IsRefusal, work_fault}
 use Rattle.command_words.specs.declared.request.Refusal.{Refusal}
 use Rattle.command_words.specs.declared.request.UsageFault.{UsageFault}
 use Rattle.command_words.specs.declared.request.UsageFault.TheVariants as fault
