@@ -8,12 +8,12 @@ use Rattle.turn_orders.specs.Machine.{Outcome, Call, State, Turn, but, outcome, 
 use Rattle.turn_orders.proofs.Runs.{but_here, but_else}
 
 module _ {X : Type 0} where
-  but_twice : (f : ℕ → X) (i : ℕ) (x y : X) → but (but f i x) i y ≡ but f i y
+  pub but_twice : (f : ℕ → X) (i : ℕ) (x y : X) → but (but f i x) i y ≡ but f i y
   but_twice f i x y = fun_ext (λ j. dite (ℕ_discrete j i)
       (λ e. but_here (but f i x) i j y e ∙ sym (but_here f i j y e))
       (λ ne. but_else (but f i x) i j y ne ∙ (but_else f i j x ne ∙ sym (but_else f i j y ne))))
 
-  but_same : (f : ℕ → X) (i : ℕ) → but f i (f i) ≡ f
+  pub but_same : (f : ℕ → X) (i : ℕ) → but f i (f i) ≡ f
   but_same f i = fun_ext (λ j. dite (ℕ_discrete j i)
       (λ e. but_here f i j (f i) e ∙ ap f (sym e))
       (λ ne. but_else f i j (f i) ne))
