@@ -8,7 +8,7 @@ use Rattle.bare_machine.specs.declared.thread.Thread.{Thread}
 use Rattle.bare_machine.specs.Step.{step, desk, thread_step}
 use Rattle.turn_orders.specs.Machine.{Call, State, but, next, after, tells}
 use Rattle.turn_orders.specs.Splits.{AllMay, folded}
-use Rattle.turn_orders.proofs.Many.{but_same}
+use Rattle.turn_orders.proofs.Functions.{but_same}
 use Rattle.place_turns.specs.Places.{Local, Desk, Value, place_of}
 use Rattle.place_turns.specs.Requests.{object_of, request}
 use Rattle.place_turns.specs.Turns.{Turned, Act, arrives, steps, arrived, stepped, bare_turn}

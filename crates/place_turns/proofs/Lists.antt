@@ -7,7 +7,7 @@ use mathlib.Core.Path.{fun_ext}
 use mathlib.Core.Logic.{dite}
 use native.Mathlib.Decide.{ℕ_discrete}
 use Rattle.turn_orders.specs.Machine.{but}
-use Rattle.turn_orders.proofs.Runs.{but_here, but_else}
+use Rattle.turn_orders.proofs.Functions.{but_here, but_else}
 
 -- ---- places of a list
 
@@ -91,19 +91,3 @@ pub count_map : {X : Type 0} (f : X → Bool) (xs : List X) → count_by (λ (b 
 count_map f [] = refl
 count_map f (x ∷ xs) =
     sum_by-cons (λ (b : Bool). cond b 1 0) (f x) (map f xs) ∙ (ap (λ n. cond (f x) 1 0 + n) (count_map f xs) ∙ sym (sum_by-cons (λ (y : _). cond (f y) 1 0) x xs))
-
--- ---- functions but for one number
-
-cond_map : {X Y : Type 0} (f : X → Y) (b : Bool) (x y : X) → f (cond b x y) ≡ cond b (f x) (f y)
-cond_map f true x y = refl
-cond_map f false x y = refl
-
--- what is told of each value
-pub but_map : {X Y : Type 0} (f : X → Y) (h : ℕ → X) (i : ℕ) (x : X) → (λ (u : ℕ). f (but h i x u)) ≡ but (λ (u : ℕ). f (h u)) i (f x)
-but_map f h i x = fun_ext (λ u. cond_map f (eqb u i) x (h u))
-
--- what holds at the number and at each other one
-pub but_each : {X : Type 0} (P : ℕ → X → Type 0) (f : ℕ → X) (i : ℕ) (x : X) → P i x → ((u : ℕ) → u ≢ i → P u (f u)) → (u : ℕ) → P u (but f i x u)
-but_each P f i x here there u = dite (ℕ_discrete u i)
-    (λ e. subst (P u) (sym (but_here f i u x e)) (subst (λ (v : ℕ). P v x) (sym e) here))
-    (λ ne. subst (P u) (sym (but_else f i u x ne)) (there u ne))

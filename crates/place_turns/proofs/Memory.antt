@@ -10,12 +10,11 @@ use Rattle.elf_image.specs.File.{granules_of}
 use Rattle.guest_memory.specs.Reservations.{stands}
 use Rattle.bare_machine.specs.Memory.{GuestMemory, reserved, written}
 use Rattle.turn_orders.specs.Machine.{but}
-use Rattle.turn_orders.proofs.Runs.{but_here, but_else}
-use Rattle.turn_orders.proofs.Many.{but_same}
+use Rattle.turn_orders.proofs.Functions.{but_each, but_else, but_here, but_same}
 use Rattle.place_turns.specs.Places.{Stripe, stripe_at, reserves}
 use Rattle.place_turns.specs.Turns.{reserved_after, stripe_reserved, stripe_written}
 use Rattle.place_turns.specs.Wholes.{HasMemory}
-use Rattle.place_turns.proofs.Lists.{index_set_same, index_set_other, but_each}
+use Rattle.place_turns.proofs.Lists.{index_set_same, index_set_other}
 use Rattle.place_turns.proofs.Reservations as stand
 
 -- what one stripe tells alike after a change tells alike of all

@@ -26,8 +26,7 @@ use Rattle.bare_machine.specs.Step as steps
 use Rattle.bare_machine.specs.Step.{Step, stops, first_of, desk, answered, outcome, minus, with_registers, put_step, create_step, atomic_at_granule}
 use Rattle.bare_machine.proofs.CallLemmas.{get_longer}
 use Rattle.turn_orders.specs.Machine.{State, but}
-use Rattle.turn_orders.proofs.Runs.{but_here}
-use Rattle.turn_orders.proofs.Many.{but_same, but_twice}
+use Rattle.turn_orders.proofs.Functions.{but_here, but_same, but_twice}
 use Rattle.place_turns.specs.Places.{Local, Stripe, Desk, Value, of_stripe, stripe_at}
 use Rattle.place_turns.specs.Requests.{go_on, touch, operate, put, create, join, stop}
 use Rattle.place_turns.specs.Turns as turns

@@ -3,13 +3,11 @@ use Rattle.std.proofs.Common.{◌≡◌, ◌≢◌, ℕ, List, Option, sym, ap, 
 use Rattle.bare_machine.specs.declared.thread.Thread.{Thread}
 use Rattle.bare_machine.specs.Step.{Step, desk}
 use Rattle.turn_orders.specs.Machine.{State, but}
-use Rattle.turn_orders.proofs.Runs.{but_else}
-use Rattle.turn_orders.proofs.Many.{but_same}
+use Rattle.turn_orders.proofs.Functions.{but_else, but_map, but_same}
 use Rattle.place_turns.specs.Places.{Local, Stripe, Desk, Value, of_stripe, of_desk, stripe_in, desk_in, place_of, stripe_at}
 use Rattle.place_turns.specs.Requests.{Request, object_of}
 use Rattle.place_turns.specs.Turns.{Turned, served}
 use Rattle.place_turns.specs.Wholes.{Whole, HasThreads, HasMemory, IsStateOf, desk_of}
-use Rattle.place_turns.proofs.Lists.{but_map}
 use Rattle.place_turns.proofs.Memory.{stripes_alike}
 
 -- the threads that are with themselves, the granule that each reserved last, and the stripes

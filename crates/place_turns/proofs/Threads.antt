@@ -7,9 +7,9 @@ use mathlib.Core.Logic.{dite}
 use native.Mathlib.Decide.{ℕ_discrete}
 use Rattle.bare_machine.specs.declared.thread.Thread.{Thread}
 use Rattle.turn_orders.specs.Machine.{but}
-use Rattle.turn_orders.proofs.Runs.{but_here, but_else}
+use Rattle.turn_orders.proofs.Functions.{but_each, but_else, but_here}
 use Rattle.place_turns.specs.Wholes.{HasThreads}
-use Rattle.place_turns.proofs.Lists.{set_same, get_set_same, get_set_other, get_push_below, get_push_alike, length_push, map_set, map_push, get_map, but_each}
+use Rattle.place_turns.proofs.Lists.{set_same, get_set_same, get_set_other, get_push_below, get_push_alike, length_push, map_set, map_push, get_map}
 
 abbrev lives : Thread → Bool
 lives x = x.lives

@@ -1,4 +1,5 @@
 pub mod Members
+pub mod Functions
 pub mod Runs
 pub mod Sorting
 pub mod Stamps

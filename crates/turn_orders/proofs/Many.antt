@@ -5,18 +5,7 @@ use mathlib.Core.Logic.{dite}
 use native.Mathlib.Decide.{ℕ_discrete}
 use Rattle.std.specs.List.{flat_map}
 use Rattle.turn_orders.specs.Machine.{Outcome, Call, State, Turn, but, outcome, next, after, tells, many, single, singles, acts}
-use Rattle.turn_orders.proofs.Runs.{but_here, but_else}
-
-module _ {X : Type 0} where
-  pub but_twice : (f : ℕ → X) (i : ℕ) (x y : X) → but (but f i x) i y ≡ but f i y
-  but_twice f i x y = fun_ext (λ j. dite (ℕ_discrete j i)
-      (λ e. but_here (but f i x) i j y e ∙ sym (but_here f i j y e))
-      (λ ne. but_else (but f i x) i j y ne ∙ (but_else f i j x ne ∙ sym (but_else f i j y ne))))
-
-  pub but_same : (f : ℕ → X) (i : ℕ) → but f i (f i) ≡ f
-  but_same f i = fun_ext (λ j. dite (ℕ_discrete j i)
-      (λ e. but_here f i j (f i) e ∙ ap f (sym e))
-      (λ ne. but_else f i j (f i) ne))
+use Rattle.turn_orders.proofs.Functions.{but_here, but_twice, but_same}
 
 module _ {L O A T : Type 0} (turn : Turn L O A T) where
   -- the later acts find what the first left

@@ -6,7 +6,7 @@ use native.Mathlib.Decide.{ℕ_discrete}
 use Rattle.std.specs.Prelude.{map}
 use Rattle.turn_orders.specs.Machine.{Call, State, Turn, but, outcome, next, after, tells}
 use Rattle.turn_orders.specs.LineUp.{Draws, Stamped, stamped, plain}
-use Rattle.turn_orders.proofs.Runs.{but_here, but_else}
+use Rattle.turn_orders.proofs.Functions.{but_here, but_else}
 
 module _ {L O A T : Type 0} (turn : Turn L O A T) where
   pub stamped_draws : Draws (stamped turn) (λ l. l.last) (λ x. x.last)

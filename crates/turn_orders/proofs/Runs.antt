@@ -6,14 +6,8 @@ use native.Mathlib.Decide.{ℕ_discrete}
 use Rattle.std.specs.Prelude.{map}
 use Rattle.turn_orders.specs.Machine.{Outcome, State, Turn, but, outcome, next, after, tells}
 use Rattle.turn_orders.specs.LineUp.{Deed, calls, of_thread, of_place, LocalsFollow, ValuesFollow, last_local, last_value, IsLineUp}
+use Rattle.turn_orders.proofs.Functions.{but_here, but_else}
 use Rattle.turn_orders.proofs.Members.{filter_here, filter_not}
-
-module _ {X : Type 0} where
-  pub but_here : (f : ℕ → X) (i j : ℕ) (x : X) → j ≡ i → but f i x j ≡ x
-  but_here f i j x e = ap (λ (b : Bool). cond b x (f j)) (eq-eqb j i e)
-
-  pub but_else : (f : ℕ → X) (i j : ℕ) (x : X) → j ≢ i → but f i x j ≡ f j
-  but_else f i j x ne = ap (λ (b : Bool). cond b x (f j)) (ne_eqb j i ne)
 
 module _ {L O A T : Type 0} (turn : Turn L O A T) where
   -- each deed finds in the run what it found

@@ -5,7 +5,7 @@ use native.Mathlib.Decide.{ℕ_discrete}
 use Rattle.turn_orders.specs.Machine.{Call, State, Turn, outcome, next, after}
 use Rattle.turn_orders.specs.LineUp.{Deed, calls, IsLineUp}
 use Rattle.turn_orders.specs.Splits.{Splits, AllMay, folded, Agrees}
-use Rattle.turn_orders.proofs.Runs.{but_here, but_else}
+use Rattle.turn_orders.proofs.Functions.{but_here, but_else}
 use Rattle.turn_orders.proofs.Stamps.{found_at}
 
 module _ {L O A T G V W : Type 0} (turn : Turn L O A T) (step : G → Call A → G) (see : ℕ → G → V) (look : ℕ → G → W) (local : L → V) (value : O → W) (May : G → Call A → Type 0) (s : Splits turn step see look local value May) where

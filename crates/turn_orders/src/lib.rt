@@ -27,6 +27,13 @@ pub fn sorted_law<L, O, A, T>()
         IsLineUp turn m ys × (tells turn m (calls ys) ≡ map (λ (d : Deed L O A T). d.told) ys) × (after turn m (calls ys) ≡ after turn m (calls xs)) }
 {}
 
+/// In the run of a line-up each turn finds the local state and the value that it found as it was made.
+pub fn found_law<L, O, A, T>()
+    ensures { (turn : Turn L O A T) (m : State L O) (early late : List (Deed L O A T)) (d : Deed L O A T) →
+        IsLineUp turn m (early ++ d ∷ late) →
+        ((after turn m (calls early)).local d.call.thread ≡ d.local_found) × ((after turn m (calls early)).value d.call.place ≡ d.found) }
+{}
+
 /// The same of rounds one after another, from the first state on: the machine that takes the listed turns tells what they
 /// told and ends in the same state, the whole history is sorted, and each stamp is one more than the greatest of the
 /// earlier rounds, of its thread and of its place.
