@@ -1,5 +1,5 @@
 -- Choices by a test whose answer is known.
-use Rattle.std.proofs.Common.{◌≡◌, ◌≢◌, ℕ, Bool, true, false, cond, eqb, refl, ap, eq-eqb, ne_eqb, arith}
+use Rattle.std.proofs.Common.{◌≡◌, ◌≢◌, ℕ, Bool, true, false, cond, refl, ap, eq-eqb, ne_eqb, arith}
 use Rattle.std.specs.Prelude.{◌==◌, ◌&&◌, max}
 
 module _ {A : Type 0} where

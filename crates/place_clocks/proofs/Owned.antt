@@ -1,5 +1,5 @@
 -- What an event does to labels: those of its thread and those of the others.
-use Rattle.std.proofs.Common.{◌≡◌, ◌≢◌, ◌+◌, ℕ, Bool, true, false, cond, eqb, Option, Some, None, refl, sym, ap, subst, ◌∙◌, eq-eqb, ne_eqb, eqb-true, arith}
+use Rattle.std.proofs.Common.{◌≡◌, ◌≢◌, ◌+◌, ℕ, Bool, true, false, cond, Option, Some, None, refl, sym, ap, ◌∙◌, eq-eqb, ne_eqb, eqb-true, arith}
 use Rattle.std.specs.Prelude.{◌==◌, ◌&&◌, ◌||◌, nat_lt, option_map}
 use mathlib.Core.Logic.{dite}
 use native.Mathlib.Decide.{ℕ_discrete}
@@ -7,7 +7,7 @@ use Rattle.run_record.specs.declared.event.Event.{Event}
 use Rattle.run_record.specs.declared.entry.Label.{Label}
 use Rattle.run_laws.specs.Labels.{Labels, holds, is_end, raises, raised, slot_after, event_labels}
 use Rattle.place_clocks.specs.Turns.{label_after, raised_by}
-use Rattle.place_clocks.specs.Holds.{Whole, IsSound, label_with, label_in}
+use Rattle.place_clocks.specs.Holds.{label_with, label_in}
 use Rattle.place_clocks.proofs.Choices.{if_yes, if_no, if_false}
 
 -- by how much slot s is raised where the thread holds this one

@@ -1,14 +1,12 @@
 -- Which clocks an event leaves as they are.
-use Rattle.std.proofs.Common.{◌≡◌, ◌≢◌, ℕ, Bool, true, false, cond, refl, sym, ap, ◌∙◌, ne_eqb, arith}
-use Rattle.std.specs.Prelude.{◌==◌, ◌&&◌, max}
+use Rattle.std.proofs.Common.{◌≡◌, ◌≢◌, ℕ, Bool, false, cond, refl, sym, ap, ◌∙◌, ne_eqb}
+use Rattle.std.specs.Prelude.{◌&&◌, max}
 use Rattle.run_record.specs.declared.event.Event.{Event}
 use Rattle.run_record.specs.declared.event.Event.TheVariants as events
 use Rattle.run_record.specs.declared.event.Part.{Part}
 use Rattle.run_laws.specs.HappensBefore.{same_part, ends_channel}
 use Rattle.run_laws.specs.Labels.{Labels, holds, is_end}
-use Rattle.run_laws.specs.Clocks.{Clocks, Spot, Of, Left, Channel, Given, Ended, left_at, is_place, leaves, empties, event_clocks}
-use Rattle.bare_machine.specs.Memory.{stripe}
-use Rattle.bare_machine.specs.Step.{desk}
+use Rattle.run_laws.specs.Clocks.{Clocks, Spot, Left, Channel, Given, Ended, left_at, is_place, leaves, empties, event_clocks}
 use Rattle.place_clocks.proofs.Choices.{if_false, and_false, max_zero}
 
 module _ (g : ℕ) (l : Labels) (k : Clocks) (t : ℕ) (e : Event) where
