@@ -9,7 +9,7 @@ use Rattle.bare_machine.specs.Step.{step, desk, thread_step}
 use Rattle.turn_orders.specs.Machine.{Call, State, but, next, after, tells}
 use Rattle.turn_orders.specs.Splits.{AllMay, folded}
 use Rattle.turn_orders.proofs.Functions.{but_same}
-use Rattle.place_turns.specs.Places.{Local, Desk, Value, place_of}
+use Rattle.place_turns.specs.Places.{Local, Desk, Value, IsAt}
 use Rattle.place_turns.specs.Requests.{object_of, request}
 use Rattle.place_turns.specs.Turns.{Turned, Act, arrives, steps, arrived, stepped, bare_turn}
 use Rattle.place_turns.specs.Wholes.{Whole, HasMemory, IsStateOf, May, MayAct, IsPlacedAct, ArePlaced, whole_after, whole_next, events_at, events_along, desk_of}
@@ -64,9 +64,9 @@ module _ (file : List ℕ) (harts : ℕ) (ok : image_of file ≡ Ok file) where
       serves : Serves file harts g m t (step file g.world t) (request file t x)
       serves = subst (λ (o : Option Thread). Serves file harts g m t (thread_step file g.world t o) (request file t x)) (sym is) (thread_is file harts ok g m h t x is here)
 
-      instruction : (k : ℕ) → k ≡ place_of t (step file g.world t).object → Goes g m t k steps
+      instruction : (k : ℕ) → IsAt k (step file g.world t).object → Goes g m t k steps
       instruction k e =
-          let met = serves.meets k (e ∙ ap (place_of t) serves.object) in
+          let met = serves.meets k (subst (IsAt k) serves.object e) in
           let own : (m.local t).thread ≡ Some x = h.threads.here t here ∙ is in
           let turn = ap (stepped file harts t (m.local t) (m.value k)) own in
           record {
@@ -90,7 +90,7 @@ module _ (file : List ℕ) (harts : ℕ) (ok : image_of file ≡ Ok file) where
     may_act k arrives p = (p.0, subst (λ (n : ℕ). t < n) h.threads.count p.1)
     may_act k steps p = (
       (is_here p.thread p.arrived (cases_Bool (g.arrived t))).0,
-      p.place ∙ ap (place_of t) (sym (object_is p.thread p.arrived)),
+      subst (IsAt k) (sym (object_is p.thread p.arrived)) p.place,
     )
 
   pub state_along : (g : Whole) (m : State Local Value) (cs : List (Call Act)) → IsStateOf file harts g m → AllMay (whole_next file) (May file) g cs → IsStateOf file harts (folded (whole_next file) g cs) (after (bare_turn file harts) m cs)

@@ -4,7 +4,7 @@ use Rattle.bare_machine.specs.declared.thread.Thread.{Thread}
 use Rattle.bare_machine.specs.Step.{Step, desk}
 use Rattle.turn_orders.specs.Machine.{State, but}
 use Rattle.turn_orders.proofs.Functions.{but_else, but_map, but_same}
-use Rattle.place_turns.specs.Places.{Local, Stripe, Desk, Value, of_stripe, of_desk, stripe_in, desk_in, place_of, stripe_at}
+use Rattle.place_turns.specs.Places.{Local, Stripe, Desk, Value, of_stripe, of_desk, stripe_in, desk_in, IsAt, stripe_at}
 use Rattle.place_turns.specs.Requests.{Request, object_of}
 use Rattle.place_turns.specs.Turns.{Turned, served}
 use Rattle.place_turns.specs.Wholes.{Whole, HasThreads, HasMemory, IsStateOf, desk_of}
@@ -74,4 +74,4 @@ pub record Meets (file : List ℕ) (harts : ℕ) (g : Whole) (m : State Local Va
 -- At the place of its object the request that is served comes to the step.
 pub record Serves (file : List ℕ) (harts : ℕ) (g : Whole) (m : State Local Value) (t : ℕ) (s : Step) (r : Request) : Type 0 where
   pub object : s.object ≡ object_of r
-  pub meets : (k : ℕ) → k ≡ place_of t (object_of r) → Meets file harts g m t k s (served harts t (m.local t) (m.value k) r)
+  pub meets : (k : ℕ) → IsAt k (object_of r) → Meets file harts g m t k s (served harts t (m.local t) (m.value k) r)

@@ -1,5 +1,5 @@
 -- What each thread keeps for itself, and what each place has.
-use Rattle.std.specs.Prelude.{ℕ, ◌+◌, ◌==◌, Bool, false, List, [], Option, Some, None}
+use Rattle.std.specs.Prelude.{◌≡◌, ℕ, ◌==◌, Bool, false, List, [], Option, Some, None}
 use Rattle.run_record.specs.declared.finished.GuestEnd.{GuestEnd}
 use Rattle.elf_image.specs.File.{granule_address}
 use Rattle.guest_memory.specs.declared.reservations.Reservation.{Reservation}
@@ -40,11 +40,11 @@ abbrev pub desk_in : Value → Desk
 desk_in (of_desk d) = d
 desk_in _ = record { made = []; lives = []; output = []; ended = None }
 
--- The places are the objects, which are the 64 stripes of memory and the desk, and after them one of each thread's own. An
--- instruction of thread t that uses this object, if any, is at this place.
-abbrev pub place_of : ℕ → Option ℕ → ℕ
-place_of t None = 65 + t
-place_of t (Some object) = object
+-- The places are numbered as the objects are: 64 stripes of memory, then the desk. Those after them have nothing. An
+-- instruction that uses an object is at that place; one that uses none may be at any, which it leaves as it is.
+abbrev pub IsAt : ℕ → Option ℕ → Type 0
+IsAt k None = Unit {0}
+IsAt k (Some object) = k ≡ object
 
 -- the stripe of a granule
 abbrev pub stripe_at : List ℕ → ℕ → ℕ

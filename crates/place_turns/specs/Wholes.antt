@@ -8,7 +8,7 @@ use Rattle.bare_machine.specs.Memory.{GuestMemory}
 use Rattle.bare_machine.specs.World.{World, start, new_thread}
 use Rattle.bare_machine.specs.Step.{step, desk}
 use Rattle.turn_orders.specs.Machine.{Call, State, but, next}
-use Rattle.place_turns.specs.Places.{Local, Stripe, Desk, Value, of_stripe, of_desk, of_nobody, stripe_in, desk_in, place_of, stripe_at, reserves}
+use Rattle.place_turns.specs.Places.{Local, Stripe, Desk, Value, of_stripe, of_desk, of_nobody, stripe_in, desk_in, IsAt, stripe_at, reserves}
 use Rattle.place_turns.specs.Requests.{object_of, request}
 use Rattle.place_turns.specs.Turns.{Act, arrives, steps, bare_turn}
 
@@ -36,21 +36,21 @@ events_along file g [] = []
 events_along file g (c ∷ cs) = events_at file g c.thread c.act ∷ events_along file (whole_next file g c) cs
 
 -- A thread arrives at the desk once it was made. It steps once it has arrived, at the place of the object that its
--- instruction uses.
+-- instruction uses, if any.
 abbrev pub MayAct : List ℕ → Whole → ℕ → ℕ → Act → Type 0
 MayAct file g t k arrives = (k ≡ desk) × (t < length g.world.threads)
-MayAct file g t k steps = (g.arrived t ≡ true) × (k ≡ place_of t (step file g.world t).object)
+MayAct file g t k steps = (g.arrived t ≡ true) × IsAt k (step file g.world t).object
 
 abbrev pub May : List ℕ → Whole → Call Act → Type 0
 May file g c = MayAct file g c.thread c.place c.act
 
 -- ---- the same places, as the machine itself tells them
 
--- the thread has arrived, and is at the place that its own state tells
+-- the thread has arrived, and is at the place that its own state tells, if any
 pub record IsAtPlace (file : List ℕ) (l : Local) (t k : ℕ) : Type 0 where
   pub thread : Thread
   pub arrived : l.thread ≡ Some thread
-  pub place : k ≡ place_of t (object_of (request file t thread))
+  pub place : IsAt k (object_of (request file t thread))
 
 abbrev pub desk_of : State Local Value → Desk
 desk_of m = desk_in (m.value desk)

@@ -1,8 +1,8 @@
 //! The bare machine by threads and places: a turn of a thread touches its own state and the value of one place.
 //!
-//! A place is one of the 64 stripes of memory, the desk, or a place of a thread's own. What an instruction asks for is told by
-//! its thread alone (`request`), and with it the place at which it is served; `bare_turn` serves it there. A new thread's
-//! registers stay at the desk until it arrives. The laws say that the fold of these turns is the bare machine: over any list
+//! A place is one of the 64 stripes of memory or the desk. What an instruction asks for is told by its thread alone
+//! (`request`), and with it the object that it uses, if any, at whose place `bare_turn` serves it. A new thread's registers
+//! stay at the desk until it arrives. The laws say that the fold of these turns is the bare machine: over any list
 //! of calls each thread, each word, the reservations, the output, the first end and all events are those of
 //! `bare_machine`'s step. So any list with the same turns in the same order for each thread and for each place has the same
 //! run, by the laws of `turn_orders`.

@@ -15,7 +15,7 @@ module _ {L O A T : Type 0} (turn : Turn L O A T) where
       ap (λ (l : L). many turn t rest l ((next turn m (single t k a)).value k)) (but_here m.local t t (turn t a (m.local t) (m.value k)).local refl)
       ∙ ap (many turn t rest (turn t a (m.local t) (m.value k)).local) (but_here m.value k k (turn t a (m.local t) (m.value k)).value refl)
 
-  many_next : (m : State L O) (t k : ℕ) (more : List A) → next (many turn) m (single t k more) ≡ after turn m (singles t k more)
+  pub many_next : (m : State L O) (t k : ℕ) (more : List A) → next (many turn) m (single t k more) ≡ after turn m (singles t k more)
   many_next m t k [] = λ i. record { local = but_same m.local t i; value = but_same m.value k i }
   many_next m t k (a ∷ more) = sym both ∙ many_next (next turn m (single t k a)) t k more
     where

@@ -1,0 +1,4 @@
+pub mod Suits
+pub mod Making
+pub mod Together
+pub mod Run

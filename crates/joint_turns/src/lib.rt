@@ -1,0 +1,49 @@
+//! The machine with its labels and clocks, by threads and places.
+//!
+//! `joint_turn` is one turn of a thread at one place, as a function of what the thread keeps and of what the place has: an
+//! instruction of the bare machine with its events, or a slot that is taken. It tells the items of a history. The laws say
+//! that over any list of calls this machine is the bare machine with the labels and clocks of the definitions: each thread,
+//! each word, the output, the end and all events are those of `bare_machine`'s steps, and labels, clocks and the queue those
+//! that `run_laws` folds over the history that is told. By the laws of `turn_orders` any list with the same turns in the
+//! same order for each thread and for each place has the same run.
+//!
+//! `place_turns` has the machine and `place_clocks` the labels and clocks; both stand below this crate with what is below
+//! them. Its functions do nothing: the contract of each is a law. The layer above starts with `start_law`, and cites
+//! `turns_law` of the calls of each round, in the order in which they are listed, and `era_law` where an era begins.
+#![tactic(auto)]
+
+ghost use Rattle.std.specs.Prelude.{◌≡◌, ℕ, ◌+◌, suc, List, length, Ok};
+ghost use Rattle.std.specs.List.{flat_map};
+ghost use Rattle.elf_image.specs.File.{image_of};
+ghost use Rattle.run_laws.specs.Moments.{Item, NewEra};
+ghost use Rattle.bare_machine.specs.World.{World, start};
+ghost use Rattle.turn_orders.specs.Machine.{Call, State, after, tells};
+ghost use Rattle.place_clocks.specs.Holds.{StandFrom};
+ghost use Rattle.joint_turns.specs.Joint.{Local, Value, Act, joint_turn, first_state, era_after};
+ghost use Rattle.joint_turns.specs.Along.{IsJoint, ArePlaced, AllTell, world_along};
+
+/// The first state is that of the bare machine's first world, before any history. As everywhere here, so many threads may
+/// live at once, g is the greatest epoch, and there are so many slots.
+pub fn start_law()
+    ensures { (file : List ℕ) (harts g slots : ℕ) (h : ℕ → Item) → IsJoint file harts g slots (start file harts) h 0 (first_state file slots) }
+{}
+
+/// Where a state has a world and what stands at a position of a history, and calls made in it tell what stands in the
+/// history from there, the state after them has the world after their steps and what stands at the position after that. Each
+/// instruction tells the events of the bare machine's step.
+pub fn turns_law()
+    ensures state { (file : List ℕ) (harts g slots : ℕ) (w : World) (h : ℕ → Item) (n : ℕ) (m : State Local Value) (cs : List (Call Act)) →
+        image_of file ≡ Ok file → IsJoint file harts g slots w h n m → ArePlaced file harts g m cs →
+        let told = flat_map (λ (items : List Item). items) (tells (joint_turn file harts g) m cs) in
+        StandFrom h n told → IsJoint file harts g slots (world_along file w cs) h (n + length told) (after (joint_turn file harts g) m cs) }
+    ensures told { (file : List ℕ) (harts g slots : ℕ) (w : World) (h : ℕ → Item) (n : ℕ) (m : State Local Value) (cs : List (Call Act)) →
+        image_of file ≡ Ok file → IsJoint file harts g slots w h n m → ArePlaced file harts g m cs →
+        StandFrom h n (flat_map (λ (items : List Item). items) (tells (joint_turn file harts g) m cs)) →
+        AllTell file w cs (tells (joint_turn file harts g) m cs) }
+{}
+
+/// Where an era begins, the machine stays, and what stands is that after it.
+pub fn era_law()
+    ensures { (file : List ℕ) (harts g slots : ℕ) (w : World) (h : ℕ → Item) (n : ℕ) (m : State Local Value) →
+        h n ≡ NewEra → IsJoint file harts g slots w h n m → IsJoint file harts g slots w h (suc n) (era_after slots m) }
+{}
