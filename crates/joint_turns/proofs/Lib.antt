@@ -2,3 +2,4 @@ pub mod Suits
 pub mod Making
 pub mod Together
 pub mod Run
+pub mod Listed

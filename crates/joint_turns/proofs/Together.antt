@@ -26,7 +26,7 @@ use Rattle.place_clocks.specs.Places as clocks
 use Rattle.place_clocks.specs.Turns as events
 use Rattle.place_clocks.specs.Holds.{HasClocks, StandFrom, whole_at}
 use Rattle.place_clocks.proofs.Along.{turns_hold}
-use Rattle.joint_turns.specs.Joint.{Local, Value, Turned, Act, attaches, steps, begins, leaves, attach_turn, joint_turn, IsPlacedAct, bare_of, clocks_of}
+use Rattle.joint_turns.specs.Joint.{Local, Value, Turned, Act, attaches, steps, begins, leaves, attach_turn, joint_turn, IsPlaced, bare_of, clocks_of}
 use Rattle.joint_turns.specs.Along.{IsJoint, Tells, world_after, whole_of}
 use Rattle.joint_turns.proofs.Suits.{AllSuit, turn_suits}
 use Rattle.joint_turns.proofs.Making.{Taken, all_may, taken_after, told_events}
@@ -123,7 +123,7 @@ module _ (file : List ℕ) (harts g slots : ℕ) (ok : image_of file ≡ Ok file
 
   -- ---- a slot
 
-  module _ (none : (m.local t).own.label ≡ None) (inside : t < length (wholes.desk_of (bare_of m)).made) where
+  module _ (none : (m.local t).own.label ≡ None) (inside : t < length (machine.desk_in (m.value desk).bare).made) where
     abbrev arrival : Call turns.Act
     arrival = single t desk turns.arrives
 
@@ -181,8 +181,8 @@ module _ (file : List ℕ) (harts g slots : ℕ) (ok : image_of file ≡ Ok file
     clocks = subst (HasClocks (whole_at g slots h i)) (sym (clocks_left m t k (record { local = m.local t; value = m.value k; told = items }))) held;
   }
 
-  pub comes : (k : ℕ) (a : Act) → IsPlacedAct file m t k a → Comes k a (turned k a)
-  comes k attaches p = subst (λ (x : ℕ). Comes x attaches (turned x attaches)) (sym p.0) (attach_by p.1 p.2 (clocks.desk_of (clocks_of m)).queue refl)
+  pub comes : (k : ℕ) (a : Act) → IsPlaced file (m.local t) (m.value k) t k a → Comes k a (turned k a)
+  comes k attaches p = subst (λ (x : ℕ). Comes x attaches (turned x attaches)) (sym p.0) (attach_by p.1 (subst (λ (x : ℕ). t < length (machine.desk_in (m.value x).bare).made) p.0 p.2) (clocks.desk_of (clocks_of m)).queue refl)
   comes k steps p = steps_come k p
   comes k begins p = record {
     joint = λ stand. noted k (Notes t Nothing ∷ []) (n + 1) (turns_hold g slots h n (clocks_of m) (single t k events.begins ∷ []) j.clocks (tt, tt) stand);

@@ -4,15 +4,17 @@ use Rattle.run_record.specs.declared.entry.DeskNote.TheVariants.{Nothing, Leave}
 use Rattle.run_laws.specs.Moments.{Item, Does, Notes}
 use Rattle.bare_machine.specs.World.{World}
 use Rattle.bare_machine.specs.Step.{step}
+use Rattle.std.specs.List.{flat_map}
 use Rattle.turn_orders.specs.Machine.{Call, State, next}
+use Rattle.turn_orders.specs.LineUp.{Deed, Stamped}
 use Rattle.place_turns.specs.Wholes.{Whole, IsStateOf}
 use Rattle.place_clocks.specs.Holds.{HasClocks, whole_at}
-use Rattle.joint_turns.specs.Joint.{Local, Value, Act, attaches, steps, begins, leaves, joint_turn, IsPlacedAct, bare_of, clocks_of}
+use Rattle.joint_turns.specs.Joint.{Local, Value, Act, attaches, steps, begins, leaves, joint_turn, IsPlaced, bare_of, clocks_of}
 
 -- each call is placed in the state that the calls before it left
 abbrev pub ArePlaced : List ℕ → ℕ → ℕ → State Local Value → List (Call Act) → Type 0
 ArePlaced file harts g m [] = Unit {0}
-ArePlaced file harts g m (c ∷ cs) = IsPlacedAct file m c.thread c.place c.act × ArePlaced file harts g (next (joint_turn file harts g) m c) cs
+ArePlaced file harts g m (c ∷ cs) = IsPlaced file (m.local c.thread) (m.value c.place) c.thread c.place c.act × ArePlaced file harts g (next (joint_turn file harts g) m c) cs
 
 -- the bare machine's world after the calls
 abbrev pub world_after : List ℕ → World → ℕ → Act → World
@@ -45,3 +47,28 @@ whole_of w m = record { world = w; arrived = λ t. is_some (m.local t).own.given
 pub record IsJoint (file : List ℕ) (harts g slots : ℕ) (w : World) (h : ℕ → Item) (n : ℕ) (m : State Local Value) : Type 0 where
   pub bare : IsStateOf file harts (whole_of w m) (bare_of m)
   pub clocks : HasClocks (whole_at g slots h n) (clocks_of m)
+
+-- ---- turns of several acts, as they were made
+
+-- a turn of several acts, which draws a stamp
+abbrev pub StampedDeed : Type 0
+StampedDeed = Deed (Stamped Local) (Stamped Value) (List Act) (Stamped (List (List Item)))
+
+-- each act is placed by what the acts before it left
+abbrev pub WerePlaced : List ℕ → ℕ → ℕ → Local → Value → ℕ → ℕ → List Act → Type 0
+WerePlaced file harts g l v t k [] = Unit {0}
+WerePlaced file harts g l v t k (a ∷ rest) =
+    let r = joint_turn file harts g t a l v in
+    IsPlaced file l v t k a × WerePlaced file harts g r.local r.value t k rest
+
+-- so is each act of the turn, from what it found on
+abbrev pub WasPlaced : List ℕ → ℕ → ℕ → StampedDeed → Type 0
+WasPlaced file harts g d = WerePlaced file harts g d.local_found.state d.found.state d.call.thread d.call.place d.call.act
+
+-- what each act of the turns told
+abbrev pub told_of : List StampedDeed → List (List Item)
+told_of ds = flat_map (λ (d : StampedDeed). d.told.state) ds
+
+-- and all that as one list
+abbrev pub items_of : List (List Item) → List Item
+items_of told = flat_map (λ (items : List Item). items) told

@@ -75,9 +75,10 @@ first_state file slots = joined (wholes.first_state file) (events.first_state sl
 abbrev pub era_after : ℕ → State Local Value → State Local Value
 era_after slots m = joined (bare_of m) (events.era_after slots (clocks_of m))
 
--- A thread takes a slot at the desk once it was made, and where it has no label. It steps at the place that its own state tells.
-abbrev pub IsPlacedAct : List ℕ → State Local Value → ℕ → ℕ → Act → Type 0
-IsPlacedAct file m t k attaches = (k ≡ desk) × ((m.local t).own.label ≡ None) × (t < length (wholes.desk_of (bare_of m)).made)
-IsPlacedAct file m t k steps = wholes.IsAtPlace file (m.local t).bare t k
-IsPlacedAct file m t k begins = Unit {0}
-IsPlacedAct file m t k (leaves label) = Unit {0}
+-- A thread takes a slot at the desk once it was made, and where it has no label. It steps at the place that its own state
+-- tells, if any. This is told by what the turn finds.
+abbrev pub IsPlaced : List ℕ → Local → Value → ℕ → ℕ → Act → Type 0
+IsPlaced file l v t k attaches = (k ≡ desk) × (l.own.label ≡ None) × (t < length (machine.desk_in v.bare).made)
+IsPlaced file l v t k steps = wholes.IsAtPlace file l.bare t k
+IsPlaced file l v t k begins = Unit {0}
+IsPlaced file l v t k (leaves label) = Unit {0}

@@ -17,7 +17,7 @@ module _ {L O A T : Type 0} (turn : Turn L O A T) where
       (λ e. ap (λ z. z.state) (but_here f i j x e) ∙ sym (but_here (λ k. (f k).state) i j x.state e))
       (λ ne. ap (λ z. z.state) (but_else f i j x ne) ∙ sym (but_else (λ k. (f k).state) i j x.state ne))
 
-  plain_next : (m : State (Stamped L) (Stamped O)) (c : Call A) → plain (next (stamped turn) m c) ≡ next turn (plain m) c
+  pub plain_next : (m : State (Stamped L) (Stamped O)) (c : Call A) → plain (next (stamped turn) m c) ≡ next turn (plain m) c
   plain_next m c = λ i. record {
     local = fun_ext (λ t. but_state m.local c.thread t (outcome (stamped turn) m c).local) i;
     value = fun_ext (λ k. but_state m.value c.place k (outcome (stamped turn) m c).value) i;
