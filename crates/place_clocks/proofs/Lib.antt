@@ -7,3 +7,4 @@ pub mod Taking
 pub mod Fresh
 pub mod Events
 pub mod Along
+pub mod Attaching

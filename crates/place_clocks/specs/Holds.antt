@@ -1,10 +1,11 @@
 -- When a state by threads and places has the labels, the clocks and the queue of a history.
-use Rattle.std.specs.Prelude.{◌≡◌, ◌≢◌, ℕ, suc, true, List, [], ◌∷◌, Option, Some, None, option_map}
+use Rattle.std.specs.Prelude.{◌≡◌, ◌≢◌, ℕ, ◌+◌, suc, true, List, [], ◌∷◌, Option, Some, None, option_map}
 use Rattle.run_record.specs.declared.event.Event.{Event}
 use Rattle.run_record.specs.declared.event.Event.TheVariants.{Begin, Create, End, Join, Acquire, Release, Destroy}
 use Rattle.run_record.specs.declared.event.Part.{Part}
 use Rattle.run_record.specs.declared.entry.Label.{Label}
-use Rattle.run_laws.specs.Moments.{Item}
+use Rattle.run_record.specs.declared.entry.DeskNote.TheVariants.{Attach}
+use Rattle.run_laws.specs.Moments.{Item, Notes}
 use Rattle.run_laws.specs.Labels.{Labels, labels, queue, next_labels, next_queue}
 use Rattle.run_laws.specs.Clocks.{Clocks, clocks, next_clocks, Of, Left, Channel, Given, Ended}
 use Rattle.bare_machine.specs.Memory.{stripe}
@@ -98,3 +99,19 @@ MayAct m t k (leaves l) = Unit {0}
 abbrev pub AllMay : ℕ → State Own Value → List (Call Act) → Type 0
 AllMay g m [] = Unit {0}
 AllMay g m (c ∷ cs) = MayAct m c.thread c.place c.act × AllMay g (next (clock_turn g) m c) cs
+
+-- The thread, which had no label, attached as histories ask for: it took the slot at the queue's front, of the present era,
+-- one epoch after the slot's last.
+pub record IsAttachment (g slots : ℕ) (h : ℕ → Item) (n t : ℕ) (told : List Item) : Type 0 where
+  pub label : Label
+  pub rest : List ℕ
+  pub tells : told ≡ Notes t (Attach label) ∷ []
+  pub unlabelled : (labels g h n).slot_of t ≡ None
+  pub front : queue g slots h n ≡ label.sid ∷ rest
+  pub new_epoch : label.epoch ≡ (labels g h n).epoch label.sid + 1
+  pub present_era : label.era ≡ (labels g h n).era
+
+-- where the queue is empty nothing is told
+pub record FindsNone (g slots : ℕ) (h : ℕ → Item) (n : ℕ) (told : List Item) : Type 0 where
+  pub empty : queue g slots h n ≡ []
+  pub nothing : told ≡ []
