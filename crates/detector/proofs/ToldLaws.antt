@@ -37,7 +37,7 @@ use Rattle.report_laws.specs.Awaited.Collects.{Begin}
 use Rattle.report_text.specs.Offers.{offers}
 use Rattle.detector.specs.Detected.{Detected, watcher_of}
 use Rattle.detector.specs.Stands.{Stands, awaited}
-use Rattle.detector.specs.Told.{CanBeTold, TellsPrevious, CanTellAll, TellsAll, no_rule}
+use Rattle.detector.specs.Told.{CanBeTold, TellsPrevious, CanTellAll, TellsAll}
 
 -- ---- who has a slot has a trace
 
@@ -228,7 +228,7 @@ dropped granules limits from leaving h d s = record {
 }
 
 -- Of what waited, these have been told, and the others are left.
-pub record Telling (file : List ℕ) (old new : Detected) (before after : Kept) (done left : List Candidate) : Type 0 where
+pub record Telling (meets : Option (List ℕ) → Option (List ℕ) → Bool) (file : List ℕ) (old new : Detected) (before after : Kept) (done left : List Candidate) : Type 0 where
   pub told : List Report
   pub all : old.waiting ≡ done ++ left
   pub as_many : length told ≡ length done
@@ -237,12 +237,12 @@ pub record Telling (file : List ℕ) (old new : Detected) (before after : Kept) 
       All (HasOwner old.limits.epochs h) (map awaited old.waiting) →
       All (IsRestorable old.limits (granule_of file) (granule_address file) h) (map awaited old.waiting) →
       AllZip (IsToldBy old.limits (granule_address file) h) (map awaited done) told
-  pub kept : after ≡ fold (kept_after no_rule) before told
+  pub kept : after ≡ fold (kept_after meets) before told
   pub counted : offers after ≡ offers before + length told
   pub none_waits : new ≡ record old { waiting = [] }
 
-pub telling_start : (file : List ℕ) (old new : Detected) (before : Kept) → new ≡ record old { waiting = [] } → Telling file old new before before [] old.waiting
-telling_start file old new before none = record {
+pub telling_start : (meets : Option (List ℕ) → Option (List ℕ) → Bool) (file : List ℕ) (old new : Detected) (before : Kept) → new ≡ record old { waiting = [] } → Telling meets file old new before before [] old.waiting
+telling_start meets file old new before none = record {
   told = [];
   all = refl;
   as_many = refl;
@@ -252,7 +252,7 @@ telling_start file old new before none = record {
   none_waits = none;
 }
 
-module _ (file : List ℕ) (old new : Detected) (before after : Kept) (done : List Candidate) (c : Candidate) (left : List Candidate) (t : Telling file old new before after done (c ∷ left)) where
+module _ (meets : Option (List ℕ) → Option (List ℕ) → Bool) (file : List ℕ) (old new : Detected) (before after : Kept) (done : List Candidate) (c : Candidate) (left : List Candidate) (t : Telling meets file old new before after done (c ∷ left)) where
   pub next_can : CanTellAll file old → CanBeTold file new (awaited c)
   next_can can = rw t.none_waits (record {
     from = length can.h;
@@ -267,8 +267,8 @@ module _ (file : List ℕ) (old new : Detected) (before after : Kept) (done : Li
   telling_room room =
       let n = length-append done (c ∷ left) in let e = ap length t.all in let f = t.counted in let k = t.as_many in omega arith
 
-  pub telling_step : (side : Side) (next : Kept) → TellsPrevious file new (awaited c) side → next ≡ kept_after no_rule after (record { mine = c.mine; previous = side }) → offers next ≡ offers after + 1 →
-      Telling file old new before next (done ++ c ∷ []) left
+  pub telling_step : (side : Side) (next : Kept) → TellsPrevious file new (awaited c) side → next ≡ kept_after meets after (record { mine = c.mine; previous = side }) → offers next ≡ offers after + 1 →
+      Telling meets file old new before next (done ++ c ∷ []) left
   telling_step side next is next_is more =
       let report : Report = record { mine = c.mine; previous = side } in
       record {
@@ -280,7 +280,7 @@ module _ (file : List ℕ) (old new : Detected) (before after : Kept) (done : Li
             (told_now (length h) leaving h (dropped (granules_of file) old.limits from leaving h old s)
             (all_at (HasOwner old.limits.epochs h) awaited old.waiting done left c t.all o)
             (all_at (IsRestorable old.limits (granule_of file) (granule_address file) h) awaited old.waiting done left c t.all r)));
-        kept = next_is ∙ (ap (λ (k : Kept). kept_after no_rule k report) t.kept ∙ sym (fold-append (kept_after no_rule) before t.told (report ∷ [])));
+        kept = next_is ∙ (ap (λ (k : Kept). kept_after meets k report) t.kept ∙ sym (fold-append (kept_after meets) before t.told (report ∷ [])));
         counted = (let k = t.counted in let m = length-append t.told (report ∷ []) in omega arith);
         none_waits = t.none_waits;
       }
@@ -288,8 +288,8 @@ module _ (file : List ℕ) (old new : Detected) (before after : Kept) (done : Li
       told_now : TellsPrevious file (record old { waiting = [] }) (awaited c) side
       told_now = rw t.none_waits at is
 
-pub telling_end : (file : List ℕ) (old new : Detected) (before after : Kept) (done : List Candidate) → Telling file old new before after done [] → TellsAll file old new before after
-telling_end file old new before after done t =
+pub telling_end : (meets : Option (List ℕ) → Option (List ℕ) → Bool) (file : List ℕ) (old new : Detected) (before after : Kept) (done : List Candidate) → Telling meets file old new before after done [] → TellsAll meets file old new before after
+telling_end meets file old new before after done t =
     let all : done ≡ old.waiting = sym (t.all ∙ append-nil done) in
     record {
       told = t.told;

@@ -1,5 +1,5 @@
 -- The reports of the accesses that wait, as a detector tells them.
-use Rattle.std.specs.Prelude.{◌≡◌, ◌+◌, ℕ, Bool, false, List, [], length, map, fold, All, Option}
+use Rattle.std.specs.Prelude.{◌≡◌, ◌+◌, ℕ, Bool, List, [], length, map, fold, All, Option}
 use Rattle.std.specs.List.{AllZip}
 use Rattle.run_record.specs.declared.report.Report.{Report}
 use Rattle.run_record.specs.declared.report.Side.{Side}
@@ -37,12 +37,8 @@ pub record CanTellAll (file : List ℕ) (d : Detected) : Type 0 where
   pub owners : All (HasOwner d.limits.epochs h) (map awaited d.waiting)
   pub restorable : All (IsRestorable d.limits (granule_of file) (granule_address file) h) (map awaited d.waiting)
 
--- no rule suppresses a report
-abbrev pub no_rule : Option (List ℕ) → Option (List ℕ) → Bool
-no_rule one other = false
-
--- The reports of all that waited were offered in order, and none waits any more.
-pub record TellsAll (file : List ℕ) (old new : Detected) (before after : Kept) : Type 0 where
+-- The reports of all that waited were offered in order, by the rules that two stacks may meet, and none waits any more.
+pub record TellsAll (meets : Option (List ℕ) → Option (List ℕ) → Bool) (file : List ℕ) (old new : Detected) (before after : Kept) : Type 0 where
   pub told : List Report
   pub as_many : length told ≡ length old.waiting
   pub tells :
@@ -50,6 +46,6 @@ pub record TellsAll (file : List ℕ) (old new : Detected) (before after : Kept)
       All (HasOwner old.limits.epochs h) (map awaited old.waiting) →
       All (IsRestorable old.limits (granule_of file) (granule_address file) h) (map awaited old.waiting) →
       AllZip (IsToldBy old.limits (granule_address file) h) (map awaited old.waiting) told
-  pub kept : after ≡ fold (kept_after no_rule) before told
+  pub kept : after ≡ fold (kept_after meets) before told
   pub counted : offers after ≡ offers before + length told
   pub none_waits : new ≡ record old { waiting = [] }

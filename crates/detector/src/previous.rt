@@ -3,7 +3,7 @@ ghost use Rattle.std.specs.Prelude.{◌≡◌, ◌≢◌, ℕ, ◌+◌, ◌-◌,
 ghost use Rattle.std.specs.Int.{w8, trailing_zeros};
 ghost use Rattle.run_record.specs.declared.limits.Limits.{Limits};
 ghost use Rattle.run_laws.specs.Moments.{Moment};
-ghost use Rattle.report_text.specs.Offers.{offers};
+ghost use Rattle.report_text.specs.Offers.{is_met, offers};
 ghost use Rattle.detector.specs.Detected.{Detected};
 ghost use Rattle.detector.specs.Stands.{Stands, awaited};
 ghost use Rattle.detector.specs.Told.{CanBeTold, TellsPrevious, CanTellAll, TellsAll};
@@ -11,7 +11,7 @@ ghost use Rattle.detector.specs.Told.{CanBeTold, TellsPrevious, CanTellAll, Tell
 use crate::Detector;
 use elf_image::Image;
 use race_core::Candidate;
-use report_text::Reporter;
+use report_text::{Reporter, Suppressions};
 use run_record::{Label, Locks, NoMemory, Side};
 use shadow_word::{Cell, unpack};
 use std::alloc::Global;
@@ -94,21 +94,24 @@ impl Detector {
         std::mem::replace(&mut self.waiting, Vec::new(alloc))
     }
 
-    /// Offers the reports of the accesses that wait, in order. None waits afterwards.
-    pub fn tell(
+    /// Offers the reports of the accesses that wait, in order, with the rule that each meets. None waits
+    /// afterwards.
+    pub fn tell<S: Suppressions>(
         &mut self,
         alloc: Global,
         image: &Image<'_>,
+        suppressions: &S,
         reporter: &mut Reporter,
     ) -> Result<(), NoMemory>
         requires can { CanTellAll image.now self.old }
         requires room { offers reporter.old + length self.old.waiting < 2 ^ 32 - 1 }
-        ensures { OnOk result (TellsAll image.now self.old self.new reporter.old reporter.new) }
+        ensures { OnOk result (TellsAll (is_met (S.rule_met suppressions.now)) image.now self.old self.new reporter.old reporter.new) }
     {
         let waiting = self.take_waiting(alloc);
         for candidate in waiting {
             let previous = self.previous(alloc, image, &candidate)?;
-            reporter.offer(candidate.mine, previous, None)?;
+            let met = suppressions.rule_met(&candidate.mine.stack, &previous.stack);
+            reporter.offer(candidate.mine, previous, met)?;
         }
         Ok(())
     }

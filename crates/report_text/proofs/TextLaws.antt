@@ -1,7 +1,7 @@
 -- Texts, piece by piece.
 use Rattle.std.proofs.Common.{◌≡◌, ℕ, ◌+◌, suc, List, [], ◌∷◌, ◌++◌, ◌<◌, length, take, get_or, refl, ap, sym, ◌∙◌, append_assoc, arith, length-take}
 use Rattle.std.proofs.lemmas.List.{take_more}
-use Rattle.report_text.specs.FrameTexts.{FrameText}
+use Rattle.symbol_lines.specs.FrameTexts.{FrameText}
 use Rattle.report_text.specs.Texts.{frame_line, frame_lines}
 
 append-nil : {A : Type 0} (xs : List A) → xs ++ [] ≡ xs

@@ -9,7 +9,7 @@ use Rattle.run_record.specs.declared.finished.LastState.{LastState}
 use Rattle.run_record.specs.declared.report.KeptLock.{KeptLock}
 use Rattle.run_record.specs.declared.report.Report.{Report}
 use Rattle.run_record.specs.declared.report.Side.{Side}
-use Rattle.report_text.specs.FrameTexts.{FrameText}
+use Rattle.symbol_lines.specs.FrameTexts.{FrameText}
 
 -- `0x` and 16 hexadecimal digits
 abbrev pub address : ℕ → List ℕ

@@ -1,20 +1,21 @@
 //! Reports that are kept, and the texts of a run.
 //!
-//! Below stand `run_record` for the types of a report and of a whole run, and `run_laws` for what a history
-//! reports. Earlier pairs of stacks are found through an `indexmap`. The layers above use the clause of `offer`,
-//! that one more report is one more step of what is kept, and those of `text_of`, `summary` and `status_of`,
-//! which give each text byte for byte and a run's status.
+//! Below stand `run_record` for the types of a report and of a whole run, `run_laws` for what a history reports,
+//! and `symbol_lines` for the names of places. Earlier pairs of stacks are found through an `indexmap`. The layers
+//! above use the clause of `offer`, that one more report is one more step of what is kept, by whatever rules suppress
+//! races (`Suppressions`), and those of `text_of`, `summary` and `status_of`, which give each text byte for byte and a
+//! run's status.
 #![tactic(auto)]
 
-mod frames;
 mod reporter;
 mod stack_pair;
 mod status;
+mod suppressions;
 #[cfg(test)]
 mod tests;
 mod texts;
 
-pub use frames::{Frame, Frames, Unnamed};
 pub use reporter::{Offered, Reporter};
 pub use status::{end_status, status_of};
+pub use suppressions::{Suppressions, Unsuppressed};
 pub use texts::{summary, text_of};

@@ -2,13 +2,14 @@
 ghost use Rattle.std.specs.Prelude.{◌≡◌};
 ghost use Rattle.report_text.specs.Offers.{offers};
 
-use crate::{Frame, Frames, Offered, Reporter, Unnamed, status_of, summary, text_of};
+use crate::{Offered, Reporter, status_of, summary, text_of};
 use run_record::{
     Bytes, Entries, Finished, GuestEnd, KeptLock, LastState, Locks, NoMemory, Places, Record,
     Report, Reports, Side,
 };
 use std::alloc::{AllocError, Global};
 use std::test::Fail;
+use symbol_lines::{Frame, Frames, Unnamed};
 
 fn places(alloc: Global, stack: &[u64]) -> Result<Places, AllocError> {
     let mut places = Places::new(alloc);

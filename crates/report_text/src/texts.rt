@@ -2,9 +2,9 @@
 ghost use Rattle.std.specs.Prelude.{◌≡◌, ◌++◌, OnOk, IfOk, ℕ, string_bytes};
 ghost use Rattle.report_text.specs.Texts as texts;
 
-use crate::frames::{Frame, Frames};
 use run_record::{Finished, GuestEnd, KeptLock, NoMemory, Places, Report, Side};
 use std::alloc::{AllocError, Global};
+use symbol_lines::{Frame, Frames};
 
 fn write_who(text: &mut String, tid: u32) -> Result<(), AllocError>
     ensures { OnOk result (string_bytes text.new ≡ string_bytes text.old ++ texts.who tid) }

@@ -12,8 +12,6 @@ mod elf_file;
 mod encoding;
 mod error;
 mod instruction;
-#[cfg(test)]
-mod limits;
 mod mnemonics;
 mod numbers;
 #[cfg(test)]

@@ -1,11 +1,14 @@
 // Runs of the command over files and sinks in memory.
 mod closure;
 mod endings;
+mod made;
+mod named;
 mod plans;
 mod random;
 mod refusals;
 mod reports;
 mod threads;
+mod words;
 
 use crate::{AssemblyError, Form, assemble};
 use std::alloc::{AllocError, Global};
@@ -28,7 +31,7 @@ struct Ports<'a> {
     /// The bytes of the file `p`.
     file: &'a [u8],
     /// The bytes of the file `rules`.
-    rules: &'a str,
+    rules: &'a [u8],
     /// The numbers of the reads that fail.
     failing_reads: &'a [u32],
     /// The numbers of the puts on `err` that fail, and how many bytes they take.
@@ -42,7 +45,7 @@ const ROOM: usize = 0x40000;
 fn call(alloc: Global, words: &[&str], file: &[u8]) -> Result<Answer, Fail> {
     let ports = Ports {
         file,
-        rules: "",
+        rules: b"",
         failing_reads: &[],
         failing_puts: &[],
     };
@@ -54,12 +57,16 @@ fn call_over(alloc: Global, words: &[&str], ports: &Ports<'_>) -> Result<Answer,
     for word in words {
         given.push(String::from_str(alloc, word)?)?;
     }
+    call_words(alloc, &given, ports)
+}
+
+fn call_words(alloc: Global, given: &[String], ports: &Ports<'_>) -> Result<Answer, Fail> {
     let mut files = MemoryFiles::new(alloc, ports.failing_reads)?;
     files.add("p", ports.file)?;
-    files.add("rules", ports.rules.as_bytes())?;
+    files.add("rules", ports.rules)?;
     let mut out = MemorySink::new(alloc, ROOM, &[])?;
     let mut err = MemorySink::new(alloc, ROOM, ports.failing_puts)?;
-    let ended = tool_step(alloc, &given, &mut files, &mut out, &mut err);
+    let ended = tool_step(alloc, given, &mut files, &mut out, &mut err);
     Ok(Answer { out, err, ended })
 }
 
@@ -166,7 +173,7 @@ fn check_row<R: Abort>(rt: &R, alloc: Global, row: &Row<'_>) -> Result<(), Fail>
     words.extend_from_slice(row.options)?;
     let ports = Ports {
         file: &file,
-        rules: row.rules,
+        rules: row.rules.as_bytes(),
         failing_reads: &[],
         failing_puts: &[],
     };

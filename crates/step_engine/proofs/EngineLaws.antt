@@ -1,5 +1,5 @@
 -- Rounds, one after another.
-use Rattle.std.proofs.Common.{◌≡◌, ℕ, zero, suc, ◌+◌, ◌-◌, ◌*◌, ◌<◌, ◌≤◌, ◌==◌, ◌&&◌, if◌then◌else◌, Bool, true, false, Some, Ok, List, [], ◌∷◌, ◌++◌, length, drop, refl, ap, ◌∙◌, sym, subst, arith, inl, inr, length-append, append_assoc, eq-eqb, None, ◌||◌}
+use Rattle.std.proofs.Common.{◌≡◌, ℕ, zero, suc, ◌+◌, ◌-◌, ◌*◌, ◌<◌, ◌≤◌, ◌==◌, ◌&&◌, if◌then◌else◌, Bool, true, false, Option, Some, Ok, List, [], ◌∷◌, ◌++◌, length, drop, refl, ap, ◌∙◌, sym, subst, arith, inl, inr, length-append, append_assoc, eq-eqb, None, ◌||◌}
 use Rattle.std.specs.Prelude.{All, slice_get, nat_lt, is_none}
 use Rattle.std.specs.List.{list_any}
 use Rattle.std.proofs.lemmas.List.{append-nil, length-replicate}
@@ -30,9 +30,9 @@ use Rattle.thread_turns.specs.declared.watched.TurnEnd.{TurnEnd}
 use Rattle.thread_turns.specs.Follows.{Follows, moments_by, IsStarved, TakesTurn}
 use Rattle.step_engine.specs.declared.engine.Engine.{Engine}
 use Rattle.step_engine.specs.declared.engine.Due as chosen
-use Rattle.step_engine.specs.Rounds.{IsBetween, IsAtEnd}
+use Rattle.step_engine.specs.Rounds.{Told, IsBetween, IsAtEnd}
 use Rattle.step_engine.specs.Progress.{progress, due_of, CanRound, none_free, IsReady, MakesTurns, MakesRound}
-use Rattle.step_engine.proofs.RoundLaws.{at_begin, next_round, next_era}
+use Rattle.step_engine.proofs.RoundLaws.{at_begin, told_all, next_round, next_era}
 
 -- ---- the turns of a round
 
@@ -40,7 +40,7 @@ use Rattle.step_engine.proofs.RoundLaws.{at_begin, next_round, next_era}
 pub record Turned (file : List ℕ) (limits : Limits) (old : Engine) (d : chosen.Due) (entries : List Entry) (w : WatchedMachine) (made : ℕ) (starved : Bool) : Type 0 where
   pub part : List Entry
   pub entries_are : entries ≡ old.entries ++ part
-  pub at_end : IsAtEnd file limits old.round old.entries part old.watched w old.reporter
+  pub at_end : IsAtEnd file limits old.round old.entries part old.watched w
   pub in_round :
       (p : Progress) (ds : List Due) → p.round ≡ old.round → p.era ≡ old.watched.detector.era →
       list_any (λ (due : Due). due.tid == d.tid) ds ≡ true → All (IsInRound p ds) part
@@ -60,7 +60,7 @@ pub turned-start : (file : List ℕ) (limits : Limits) (old : Engine) (d : chose
 turned-start file limits old d r = record {
   part = [];
   entries_are = rw append-nil refl;
-  at_end = at_begin file limits old.round old.entries old.watched old.reporter r.between;
+  at_end = at_begin file limits old.round old.entries old.watched r.between;
   in_round = λ p ds a b c. All-nil (IsInRound p ds);
   steps_are = refl;
   steps_by_it = refl;
@@ -118,7 +118,6 @@ turned-more file limits old d before after w new made end s below t =
             (All-weaker (IsInRound (this_round old.round old.watched.detector.era) (this_due d.tid ∷ [])) (λ (e : Entry). (e.round ≡ old.round) × (e.era ≡ old.watched.detector.era)) (λ e i. (i.round, i.era)) t.added
             (t.in_round (this_round old.round old.watched.detector.era) (this_due d.tid ∷ []) refl (sym era_is) (is_due d.tid)));
         era = t.era_stays ∙ era_is;
-        told = s.at_end.told;
       };
       in_round = λ p ds a b c. All-append (IsInRound p ds) s.part t.added (s.in_round p ds a b c) (t.in_round p ds a (b ∙ sym era_is) c);
       steps_are = steps_more s.part t.added ∙ (let x = s.steps_are in let y = t.steps_are in omega arith);
@@ -290,7 +289,7 @@ module _ (file : List ℕ) (limits : Limits) (old mid : Engine) (d : chosen.Due)
 pub made_round :
     (file : List ℕ) (limits : Limits) (old mid : Engine) (d : chosen.Due) (end : TurnEnd) (next : Detected) (last_era : ℕ) (reporter : Kept) →
     CanRound old d → 0 < d.given → IsReady file limits old → (t : MakesTurns file limits old mid d end) →
-    IsBetween file limits (old.round + 1) (old.entries ++ t.part) (record { machine = mid.watched.machine; detector = next }) reporter →
+    IsBetween file limits (old.round + 1) (old.entries ++ t.part) (record { machine = mid.watched.machine; detector = next }) →
     last_era ≡ old.watched.detector.era → next.era ≡ (if end.starved then old.watched.detector.era + 1 else old.watched.detector.era) →
     (end.starved ≡ true → none_free next.desk.queue ≡ 0) →
     MakesRound file limits old
@@ -339,23 +338,23 @@ made_round file limits old mid d end next last_era reporter can given r t betwee
     }
 
 -- what a detector that has told its reports keeps
-told_era : (file : List ℕ) (old new : Detected) (before after : Kept) → TellsAll file old new before after → new.era ≡ old.era
-told_era file old new before after t = ap (λ (x : Detected). x.era) t.none_waits
+told_era : (meets : Option (List ℕ) → Option (List ℕ) → Bool) (file : List ℕ) (old new : Detected) (before after : Kept) → TellsAll meets file old new before after → new.era ≡ old.era
+told_era meets file old new before after t = ap (λ (x : Detected). x.era) t.none_waits
 
-pub told_slots : (file : List ℕ) (old new : Detected) (before after : Kept) → TellsAll file old new before after → length new.desk.slots ≡ length old.desk.slots
-told_slots file old new before after t = ap (λ (x : Detected). length x.desk.slots) t.none_waits
+pub told_slots : (meets : Option (List ℕ) → Option (List ℕ) → Bool) (file : List ℕ) (old new : Detected) (before after : Kept) → TellsAll meets file old new before after → length new.desk.slots ≡ length old.desk.slots
+told_slots meets file old new before after t = ap (λ (x : Detected). length x.desk.slots) t.none_waits
 
-module _ (file : List ℕ) (limits : Limits) (old mid : Engine) (d : chosen.Due) (end : TurnEnd) (det : Detected) (last_era : ℕ) (reporter : Kept)
-    (can : CanRound old d) (given : 0 < d.given) (r : IsReady file limits old) (t : MakesTurns file limits old mid d end) (accepted : image_of file ≡ Ok file)
-    (tells : TellsAll file mid.watched.detector det mid.reporter reporter) (last_is : last_era ≡ det.era) where
+module _ (meets : Option (List ℕ) → Option (List ℕ) → Bool) (file : List ℕ) (limits : Limits) (old mid : Engine) (d : chosen.Due) (end : TurnEnd) (det : Detected) (last_era : ℕ) (reporter : Kept)
+    (can : CanRound old d) (given : 0 < d.given) (r : IsReady file limits old) (t : MakesTurns file limits old mid d end)
+    (tells : TellsAll meets file mid.watched.detector det mid.reporter reporter) (last_is : last_era ≡ det.era) where
   reporter_is : mid.reporter ≡ old.reporter
   reporter_is = ap (λ (e : Engine). e.reporter) t.rest
 
-  tells_old : TellsAll file mid.watched.detector det old.reporter reporter
-  tells_old = subst (λ (k : Kept). TellsAll file mid.watched.detector det k reporter) reporter_is tells
+  tells_old : TellsAll meets file mid.watched.detector det old.reporter reporter
+  tells_old = subst (λ (k : Kept). TellsAll meets file mid.watched.detector det k reporter) reporter_is tells
 
   era_is : det.era ≡ old.watched.detector.era
-  era_is = told_era file mid.watched.detector det mid.reporter reporter tells ∙ t.at_end.era
+  era_is = told_era meets file mid.watched.detector det mid.reporter reporter tells ∙ t.at_end.era
 
   abbrev Makes : Detected → Engine → Type 0
   Makes next m = MakesRound file limits old
@@ -374,14 +373,14 @@ module _ (file : List ℕ) (limits : Limits) (old mid : Engine) (d : chosen.Due)
   round-starved next e n =
       subst (λ (x : Detected). Makes x mid) (sym n) (subst (Makes (after_era det)) (sym t.rest)
       (made_round file limits old mid d end (after_era det) last_era reporter can given r t
-      (next_era file limits old.round old.entries t.part old.watched mid.watched det old.reporter reporter accepted t.at_end tells_old)
+      (next_era meets file limits old.round old.entries t.part old.watched mid.watched det old.reporter reporter t.at_end tells_old)
       (last_is ∙ era_is) (ap (λ (x : ℕ). x + 1) era_is ∙ rw e refl)
       (λ s. none_free_filled (length det.desk.slots) filled)))
     where
       filled : 1 ≤ length det.desk.slots
       filled =
           let a : length mid.watched.detector.desk.slots ≡ limits.slots = t.at_end.follows.stands.desk.desk.slots.all_slots in
-          let b : length det.desk.slots ≡ length mid.watched.detector.desk.slots = told_slots file mid.watched.detector det mid.reporter reporter tells in
+          let b : length det.desk.slots ≡ length mid.watched.detector.desk.slots = told_slots meets file mid.watched.detector det mid.reporter reporter tells in
           let x = t.at_end.follows.limits_are.some_harts in
           let y = t.at_end.follows.limits_are.harts_have_slots in
           omega arith
@@ -390,5 +389,11 @@ module _ (file : List ℕ) (limits : Limits) (old mid : Engine) (d : chosen.Due)
   round-whole e =
       subst (Makes det) (sym t.rest)
       (made_round file limits old mid d end det last_era reporter can given r t
-      (next_round file limits old.round old.entries t.part old.watched mid.watched det old.reporter reporter accepted t.at_end tells_old)
+      (next_round meets file limits old.round old.entries t.part old.watched mid.watched det old.reporter reporter t.at_end tells_old)
       (last_is ∙ era_is) (era_is ∙ rw e refl) (λ s. absurd cc))
+
+  -- the reports of the round were told after those of the earlier rounds
+  pub round_told : image_of file ≡ Ok file → Told meets file limits old.entries old.reporter → Told meets file limits mid.entries reporter
+  round_told accepted before =
+      subst (λ (es : List Entry). Told meets file limits es reporter) (sym (ap (λ (e : Engine). e.entries) t.rest))
+      (told_all meets file limits old.round old.entries t.part old.watched mid.watched det old.reporter reporter accepted before t.at_end tells_old)

@@ -32,7 +32,7 @@ use Rattle.race_core.specs.declared.watcher.Candidate.{Candidate}
 use Rattle.race_core.specs.History.{era_now}
 use Rattle.detector.specs.Detected.{Detected, after_era}
 use Rattle.detector.specs.Stands.{Stands, awaited}
-use Rattle.detector.specs.Told.{CanTellAll, TellsAll, no_rule}
+use Rattle.detector.specs.Told.{CanTellAll, TellsAll}
 use Rattle.detector.proofs.NoteLaws.{stands_era}
 use Rattle.detector.proofs.ToldLaws.{dropped}
 use Rattle.thread_turns.specs.declared.watched.WatchedMachine.{WatchedMachine}
@@ -81,7 +81,7 @@ waits_anew granules limits from leaving h d s none =
 -- ---- the start, and a round's beginning
 
 -- the start of a run
-pub at_start : (file : List ℕ) (limits : Limits) (w : WatchedMachine) → Follows file limits 0 0 [] w → IsBetween file limits 0 [] w (record { reports = []; suppressed = 0; equal = 0 })
+pub at_start : (file : List ℕ) (limits : Limits) (w : WatchedMachine) → Follows file limits 0 0 [] w → IsBetween file limits 0 [] w
 at_start file limits w f =
     let h = moments_by 0 [] w in
     let none = is_nil w.detector.waiting (sym (as_many_wait w.detector.waiting) ∙ collected_none limits.epochs h 0 (length h) (map awaited w.detector.waiting) (λ i t e. (quiet_news [] 0 0 0 w.detector.era i (omega arith)).no_event t e) f.stands.waiting) in
@@ -99,39 +99,41 @@ at_start file limits w f =
         rounds = f.rounds;
       };
       before = All-nil (λ (e : Entry). e.round < 0);
-      told = record { found = []; finds = Start; kept = refl; counted = omega arith };
     }
 
+-- before it nothing was told
+pub told_nothing : (meets : Option (List ℕ) → Option (List ℕ) → Bool) (file : List ℕ) (limits : Limits) → Told meets file limits [] (record { reports = []; suppressed = 0; equal = 0 })
+told_nothing meets file limits = record { found = []; finds = Start; kept = refl; counted = omega arith }
+
 -- a round begins: so far it has no entries
-pub at_begin : (file : List ℕ) (limits : Limits) (round : ℕ) (entries : List Entry) (w : WatchedMachine) (reporter : Kept) → IsBetween file limits round entries w reporter → IsAtEnd file limits round entries [] w w reporter
-at_begin file limits round entries w reporter b = record {
+pub at_begin : (file : List ℕ) (limits : Limits) (round : ℕ) (entries : List Entry) (w : WatchedMachine) → IsBetween file limits round entries w → IsAtEnd file limits round entries [] w w
+at_begin file limits round entries w b = record {
   follows = subst (λ (es : List Entry). Follows file limits (length (moments_by round entries w)) round es w) (sym (append-nil entries)) b.follows;
   before = b.before;
   now = All-nil (λ (e : Entry). (e.round ≡ round) × (e.era ≡ w.detector.era));
   era = refl;
-  told = b.told;
 }
 
 -- with those that wait, at most as many reports were offered as there are moments
-pub few_offers : (file : List ℕ) (limits : Limits) (round : ℕ) (entries part : List Entry) (old w : WatchedMachine) (reporter : Kept) → IsAtEnd file limits round entries part old w reporter → offers reporter + length w.detector.waiting ≤ length (moments_by round (entries ++ part) w)
-few_offers file limits round entries part old w reporter e =
+pub few_offers : (meets : Option (List ℕ) → Option (List ℕ) → Bool) (file : List ℕ) (limits : Limits) (round : ℕ) (entries part : List Entry) (old w : WatchedMachine) (reporter : Kept) → Told meets file limits entries reporter → IsAtEnd file limits round entries part old w → offers reporter + length w.detector.waiting ≤ length (moments_by round (entries ++ part) w)
+few_offers meets file limits round entries part old w reporter told e =
     let l = few_wait (granules_of file) limits (length (moments_by round entries old)) None (moments_by round (entries ++ part) w) w.detector e.follows.stands in
-    let m = e.told.counted in
+    let m = told.counted in
     let n = length-append (moments entries) (era_moments (last_era entries) (length entries) round old.detector.era) in
     omega arith
 
 -- ---- a round without entries
 
 -- in a round without entries nothing waits
-none_waits : (file : List ℕ) (limits : Limits) (round : ℕ) (entries : List Entry) (old w : WatchedMachine) (reporter : Kept) → IsAtEnd file limits round entries [] old w reporter → w.detector.waiting ≡ []
-none_waits file limits round entries old w reporter e =
+none_waits : (file : List ℕ) (limits : Limits) (round : ℕ) (entries : List Entry) (old w : WatchedMachine) → IsAtEnd file limits round entries [] old w → w.detector.waiting ≡ []
+none_waits file limits round entries old w e =
     let l = few_wait (granules_of file) limits (length (moments_by round entries old)) None (moments_by round (entries ++ []) w) w.detector e.follows.stands in
     let same : length (moments_by round (entries ++ []) w) ≡ length (moments_by round entries old) = ap (λ (es : List Entry). length (moments_in round w.detector.era es)) (append-nil entries) ∙ ap (λ (r : ℕ). length (moments_in round r entries)) e.era in
     is_nil w.detector.waiting (omega arith)
 
 -- ---- a round with entries
 
-module _ (file : List ℕ) (limits : Limits) (round : ℕ) (entries : List Entry) (x : Entry) (es : List Entry) (old w : WatchedMachine) (reporter : Kept) (accepted : image_of file ≡ Ok file) (e : IsAtEnd file limits round entries (x ∷ es) old w reporter) where
+module _ (file : List ℕ) (limits : Limits) (round : ℕ) (entries : List Entry) (x : Entry) (es : List Entry) (old w : WatchedMachine) (accepted : image_of file ≡ Ok file) (e : IsAtEnd file limits round entries (x ∷ es) old w) where
   abbrev h : List Moment
   h = moments (entries ++ x ∷ es)
 
@@ -183,18 +185,18 @@ module _ (file : List ℕ) (limits : Limits) (round : ℕ) (entries : List Entry
     restorable = subst (λ (l : Limits). All (IsRestorable l (granule_of file) (granule_address file) h) (map awaited w.detector.waiting)) (sym stands.limits_are) sought;
   }
 
-  module _ (d : Detected) (after : Kept) (t : TellsAll file w.detector d reporter after) where
+  module _ (meets : Option (List ℕ) → Option (List ℕ) → Bool) (d : Detected) (reporter after : Kept) (told : Told meets file limits entries reporter) (t : TellsAll meets file w.detector d reporter after) where
     told_by : AllZip (IsToldBy limits (granule_address file) h) (map awaited w.detector.waiting) t.told
     unfolding can
     told_by = subst (λ (l : Limits). AllZip (IsToldBy l (granule_address file) h) (map awaited w.detector.waiting) t.told) stands.limits_are (t.tells can.from can.leaving can.h can.stands can.owners can.restorable)
 
-    all_told : Told file limits (entries ++ x ∷ es) after
+    all_told : Told meets file limits (entries ++ x ∷ es) after
     all_told = record {
-      found = e.told.found ++ t.told;
-      finds = round_found limits (granule_of file) needs entries (x ∷ es) round old.detector.era (rest round old.detector.era entries x es e.now) sound cut_here (granule_address file) addresses e.before (λ i y l. (e.now i y l).0) e.told.found e.told.finds (map awaited w.detector.waiting) stands.waiting t.told told_by;
-      kept = t.kept ∙ (ap (λ (k : Kept). fold (kept_after no_rule) k t.told) e.told.kept ∙ sym (fold-append (kept_after no_rule) (record { reports = []; suppressed = 0; equal = 0 }) e.told.found t.told));
+      found = told.found ++ t.told;
+      finds = round_found limits (granule_of file) needs entries (x ∷ es) round old.detector.era (rest round old.detector.era entries x es e.now) sound cut_here (granule_address file) addresses e.before (λ i y l. (e.now i y l).0) told.found told.finds (map awaited w.detector.waiting) stands.waiting t.told told_by;
+      kept = t.kept ∙ (ap (λ (k : Kept). fold (kept_after meets) k t.told) told.kept ∙ sym (fold-append (kept_after meets) (record { reports = []; suppressed = 0; equal = 0 }) told.found t.told));
       counted =
-          (let l = few_offers file limits round entries (x ∷ es) old w reporter e in
+          (let l = few_offers meets file limits round entries (x ∷ es) old w reporter told e in
           let m = ap (λ (ms : List Moment). length ms) whole in
           let n = t.counted in
           let k = t.as_many in
@@ -204,9 +206,9 @@ module _ (file : List ℕ) (limits : Limits) (round : ℕ) (entries : List Entry
 -- ---- the reports of a round
 
 -- what waits at a round's end can be told
-pub can_tell : (file : List ℕ) (limits : Limits) (round : ℕ) (entries part : List Entry) (old w : WatchedMachine) (reporter : Kept) → image_of file ≡ Ok file → IsAtEnd file limits round entries part old w reporter → CanTellAll file w.detector
-can_tell file limits round entries [] old w reporter accepted e =
-    let none = none_waits file limits round entries old w reporter e in
+pub can_tell : (file : List ℕ) (limits : Limits) (round : ℕ) (entries part : List Entry) (old w : WatchedMachine) → image_of file ≡ Ok file → IsAtEnd file limits round entries part old w → CanTellAll file w.detector
+can_tell file limits round entries [] old w accepted e =
+    let none = none_waits file limits round entries old w e in
     let h = moments_by round (entries ++ []) w in
     record {
       from = length (moments_by round entries old);
@@ -218,29 +220,29 @@ can_tell file limits round entries [] old w reporter accepted e =
           subst (λ (cs : List Candidate). All (IsRestorable w.detector.limits (granule_of file) (granule_address file) h) (map awaited cs)) (sym none)
           (All-nil (IsRestorable w.detector.limits (granule_of file) (granule_address file) h));
     }
-can_tell file limits round entries (x ∷ es) old w reporter accepted e = can file limits round entries x es old w reporter accepted e
+can_tell file limits round entries (x ∷ es) old w accepted e = can file limits round entries x es old w accepted e
 
 -- and then all reports of the entries were told
-pub told_all : (file : List ℕ) (limits : Limits) (round : ℕ) (entries part : List Entry) (old w : WatchedMachine) (d : Detected) (reporter after : Kept) → image_of file ≡ Ok file →
-    IsAtEnd file limits round entries part old w reporter → TellsAll file w.detector d reporter after → Told file limits (entries ++ part) after
-told_all file limits round entries [] old w d reporter after accepted e t =
-    let none = none_waits file limits round entries old w reporter e in
+pub told_all : (meets : Option (List ℕ) → Option (List ℕ) → Bool) (file : List ℕ) (limits : Limits) (round : ℕ) (entries part : List Entry) (old w : WatchedMachine) (d : Detected) (reporter after : Kept) → image_of file ≡ Ok file →
+    Told meets file limits entries reporter → IsAtEnd file limits round entries part old w → TellsAll meets file w.detector d reporter after → Told meets file limits (entries ++ part) after
+told_all meets file limits round entries [] old w d reporter after accepted before e t =
+    let none = none_waits file limits round entries old w e in
     let told = is_nil t.told (t.as_many ∙ ap (λ (cs : List Candidate). length cs) none) in
-    let same : after ≡ reporter = t.kept ∙ ap (λ (rs : List Report). fold (kept_after no_rule) reporter rs) told in
-    subst (λ (k : Kept). Told file limits (entries ++ []) k) (sym same) (subst (λ (xs : List Entry). Told file limits xs reporter) (sym (append-nil entries)) e.told)
-told_all file limits round entries (x ∷ es) old w d reporter after accepted e t = all_told file limits round entries x es old w reporter accepted e d after t
+    let same : after ≡ reporter = t.kept ∙ ap (λ (rs : List Report). fold (kept_after meets) reporter rs) told in
+    subst (λ (k : Kept). Told meets file limits (entries ++ []) k) (sym same) (subst (λ (xs : List Entry). Told meets file limits xs reporter) (sym (append-nil entries)) before)
+told_all meets file limits round entries (x ∷ es) old w d reporter after accepted before e t = all_told file limits round entries x es old w accepted e meets d reporter after before t
 
 -- ---- the next round
 
 -- the next round may begin
-pub next_round : (file : List ℕ) (limits : Limits) (round : ℕ) (entries part : List Entry) (old w : WatchedMachine) (d : Detected) (reporter after : Kept) → image_of file ≡ Ok file →
-    IsAtEnd file limits round entries part old w reporter → TellsAll file w.detector d reporter after → IsBetween file limits (round + 1) (entries ++ part) (record { machine = w.machine; detector = d }) after
-next_round file limits round entries part old w d reporter after accepted e t =
+pub next_round : (meets : Option (List ℕ) → Option (List ℕ) → Bool) (file : List ℕ) (limits : Limits) (round : ℕ) (entries part : List Entry) (old w : WatchedMachine) (d : Detected) (reporter after : Kept) →
+    IsAtEnd file limits round entries part old w → TellsAll meets file w.detector d reporter after → IsBetween file limits (round + 1) (entries ++ part) (record { machine = w.machine; detector = d })
+next_round meets file limits round entries part old w d reporter after e t =
     let f = e.follows in
     let alike = alike-rounds round (round + 1) w.detector.era (entries ++ part) in
     let h = moments_by round (entries ++ part) w in
     let k = moments_by (round + 1) (entries ++ part) w in
-    subst (λ (x : Detected). IsBetween file limits (round + 1) (entries ++ part) (record { machine = w.machine; detector = x }) after) (sym t.none_waits)
+    subst (λ (x : Detected). IsBetween file limits (round + 1) (entries ++ part) (record { machine = w.machine; detector = x })) (sym t.none_waits)
     (record {
       follows = record {
         limits_are = f.limits_are;
@@ -255,7 +257,6 @@ next_round file limits round entries part old w d reporter after accepted e t =
         rounds = λ i y l. (let m = f.rounds i y l in omega arith);
       };
       before = λ i y l. (let m = f.rounds i y l in omega arith);
-      told = told_all file limits round entries part old w d reporter after accepted e t;
     })
 
 -- ---- a new era
@@ -264,7 +265,7 @@ last_at_most : (most era : ℕ) (es : List Entry) → era ≤ most → All (λ (
 last_at_most most era [] l a = l
 last_at_most most era (e ∷ es) l a = last_at_most most e.era es (All-head (λ (e : Entry). e.era ≤ most) e es a) (All-tail (λ (e : Entry). e.era ≤ most) e es a)
 
-module _ (file : List ℕ) (limits : Limits) (round : ℕ) (entries : List Entry) (w : WatchedMachine) (reporter : Kept) (b : IsBetween file limits round entries w reporter) where
+module _ (file : List ℕ) (limits : Limits) (round : ℕ) (entries : List Entry) (w : WatchedMachine) (b : IsBetween file limits round entries w) where
   abbrev so_far : List Moment
   so_far = moments_by round entries w
 
@@ -284,10 +285,10 @@ module _ (file : List ℕ) (limits : Limits) (round : ℕ) (entries : List Entry
   depths_then u = ap (λ (xs : List ℕ). length xs) (frames_now-push so_far begins u)
 
 -- between two rounds an era may begin
-pub era_between : (file : List ℕ) (limits : Limits) (round : ℕ) (entries : List Entry) (w : WatchedMachine) (reporter : Kept) → IsBetween file limits round entries w reporter → IsBetween file limits round entries (record { machine = w.machine; detector = after_era w.detector }) reporter
-era_between file limits round entries w reporter b =
+pub era_between : (file : List ℕ) (limits : Limits) (round : ℕ) (entries : List Entry) (w : WatchedMachine) → IsBetween file limits round entries w → IsBetween file limits round entries (record { machine = w.machine; detector = after_era w.detector })
+era_between file limits round entries w b =
     let f = b.follows in
-    let more_here = more file limits round entries w reporter b in
+    let more_here = more file limits round entries w b in
     record {
       follows = record {
         limits_are = f.limits_are;
@@ -295,18 +296,17 @@ era_between file limits round entries w reporter b =
         memory = f.memory;
         harts = f.harts;
         agrees = reset_after limits.harts (threads_in w.machine) w.detector.desk f.agrees;
-        depths = λ u. ap (λ (ms : List Moment). length (frames_now ms u)) (sym more_here) ∙ (depths_then file limits round entries w reporter b u ∙ f.depths u);
+        depths = λ u. ap (λ (ms : List Moment). length (frames_now ms u)) (sym more_here) ∙ (depths_then file limits round entries w b u ∙ f.depths u);
         lawful = f.lawful;
-        stands = subst (λ (ms : List Moment). Stands (granules_of file) limits (length ms) None ms (after_era w.detector)) more_here (stands_then file limits round entries w reporter b);
+        stands = subst (λ (ms : List Moment). Stands (granules_of file) limits (length ms) None ms (after_era w.detector)) more_here (stands_then file limits round entries w b);
         eras = λ i y l. (let m = f.eras i y l in omega arith);
         rounds = f.rounds;
       };
       before = b.before;
-      told = b.told;
     }
 
 -- the next round may begin in the next era
-pub next_era : (file : List ℕ) (limits : Limits) (round : ℕ) (entries part : List Entry) (old w : WatchedMachine) (d : Detected) (reporter after : Kept) → image_of file ≡ Ok file →
-    IsAtEnd file limits round entries part old w reporter → TellsAll file w.detector d reporter after → IsBetween file limits (round + 1) (entries ++ part) (record { machine = w.machine; detector = after_era d }) after
-next_era file limits round entries part old w d reporter after accepted e t =
-    era_between file limits (round + 1) (entries ++ part) (record { machine = w.machine; detector = d }) after (next_round file limits round entries part old w d reporter after accepted e t)
+pub next_era : (meets : Option (List ℕ) → Option (List ℕ) → Bool) (file : List ℕ) (limits : Limits) (round : ℕ) (entries part : List Entry) (old w : WatchedMachine) (d : Detected) (reporter after : Kept) →
+    IsAtEnd file limits round entries part old w → TellsAll meets file w.detector d reporter after → IsBetween file limits (round + 1) (entries ++ part) (record { machine = w.machine; detector = after_era d })
+next_era meets file limits round entries part old w d reporter after e t =
+    era_between file limits (round + 1) (entries ++ part) (record { machine = w.machine; detector = d }) (next_round meets file limits round entries part old w d reporter after e t)

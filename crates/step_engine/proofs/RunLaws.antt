@@ -1,5 +1,5 @@
 -- A whole run: from its start, round by round, to its end.
-use Rattle.std.proofs.Common.{◌≡◌, ℕ, ◌*◌, ◌<◌, true, Some, None, Ok, List, [], ◌∷◌, length, drop, refl, ap, ◌∙◌, sym, subst, arith, inl, inr}
+use Rattle.std.proofs.Common.{◌≡◌, ℕ, ◌*◌, ◌<◌, Bool, true, Option, Some, None, Ok, List, [], ◌∷◌, length, drop, refl, ap, ◌∙◌, sym, subst, arith, inl, inr}
 use Rattle.std.specs.Prelude.{nat_lt, option_to_list, All}
 use Rattle.std.specs.List.{list_any}
 use Rattle.std.proofs.lemmas.Bool.{lt-ltb}
@@ -22,7 +22,6 @@ use Rattle.report_laws.specs.Sound.{IsSound, TellsAddresses}
 use Rattle.report_laws.specs.Races.{StandsForRace}
 use Rattle.report_laws.proofs.RaceReports.{races_kept}
 use Rattle.machine_laws.specs.Machine.{bare_of}
-use Rattle.detector.specs.Told.{no_rule}
 use Rattle.thread_turns.specs.declared.watched.WatchedMachine.{WatchedMachine}
 use Rattle.thread_turns.specs.Ranges.{AreLimits}
 use Rattle.thread_turns.specs.Follows.{Follows}
@@ -30,6 +29,7 @@ use Rattle.step_engine.specs.declared.engine.Engine.{Engine}
 use Rattle.step_engine.specs.declared.engine.Due as chosen
 use Rattle.step_engine.specs.Live.{live_of, end_of}
 use Rattle.step_engine.specs.Progress.{progress, due_of, IsReady, MakesRound}
+use Rattle.step_engine.specs.Rounds.{Told}
 use Rattle.step_engine.specs.Run.{kept_in, IsRun}
 use Rattle.step_engine.proofs.RoundLaws.{at_start}
 use Rattle.step_engine.proofs.EngineLaws.{at_most_one, length_in}
@@ -88,7 +88,8 @@ module _ (file : List ℕ) (limits : Limits) (plan : List Turn) (e : Engine) (re
 
 -- ---- the whole run
 
-module _ (file : List ℕ) (limits : Limits) (plan : List Turn) (e : Engine) (end : GuestEnd) (f : Finished) (accepted : image_of file ≡ Ok file) (ready : IsReady file limits e)
+module _ (file : List ℕ) (limits : Limits) (plan : List Turn) (meets : Option (List ℕ) → Option (List ℕ) → Bool) (e : Engine) (end : GuestEnd) (f : Finished) (accepted : image_of file ≡ Ok file) (ready : IsReady file limits e)
+    (told : Told meets file limits e.entries e.reporter)
     (reached : Reaches OneByOne limits (bare_of file limits.harts) plan (progress e plan)) (ends : Ends OneByOne limits (bare_of file limits.harts) (progress e plan) end)
     (entries_are : f.history.entries ≡ e.entries) (last_is : f.last ≡ record { threads = length e.watched.machine.threads; rounds = e.round; era = e.last_era; end = end })
     (kept_is : kept_in f ≡ e.reporter) (output_is : f.output ≡ e.watched.machine.output) where
@@ -121,16 +122,16 @@ module _ (file : List ℕ) (limits : Limits) (plan : List Turn) (e : Engine) (en
   addresses : TellsAddresses (granule_of file) (granule_address file)
   addresses b g q = let y = granule_address-of file (8 * b) g accepted q in omega arith
 
-  reports : AreReports limits (granule_address file) no_rule (moments e.entries) (kept_in f)
-  reports = record { found = ready.between.told.found; found_all = ready.between.told.finds; kept_is = kept_is ∙ ready.between.told.kept }
+  reports : AreReports limits (granule_address file) meets (moments e.entries) (kept_in f)
+  reports = record { found = told.found; found_all = told.finds; kept_is = kept_is ∙ told.kept }
 
-  pub is_run : IsRun file limits plan f
+  pub is_run : IsRun file limits plan meets f
   is_run = record {
     lawful = subst (IsLawful OneByOne limits plan (bare_of file limits.harts) (granule_of file)) (sym entries_are) lawful;
     whole = subst (λ (es : List Entry). IsWholeRun OneByOne limits plan (bare_of file limits.harts) es f.last) (sym entries_are) whole;
-    reports = subst (λ (es : List Entry). AreReports limits (granule_address file) no_rule (moments es) (kept_in f)) (sym entries_are) reports;
+    reports = subst (λ (es : List Entry). AreReports limits (granule_address file) meets (moments es) (kept_in f)) (sym entries_are) reports;
     races = subst (λ (es : List Entry). All (StandsForRace (granule_of file) (granule_address file) (moments es)) f.reports) (sym entries_are)
-        (races_kept limits (granule_of file) (granule_address file) (needs_slot (bare_of file limits.harts) e.entries) e.entries sound addresses no_rule (kept_in f) reports);
+        (races_kept limits (granule_of file) (granule_address file) (needs_slot (bare_of file limits.harts) e.entries) e.entries sound addresses meets (kept_in f) reports);
     output = output_is ∙ ap (λ (s : World). s.output) ready.between.follows.machine
         ∙ ap (λ (es : List Entry). (state_after (bare_of file limits.harts) es).output) (sym entries_are);
   }

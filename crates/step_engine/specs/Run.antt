@@ -1,5 +1,5 @@
 -- A finished run of threads that were stepped one at a time by a plan.
-use Rattle.std.specs.Prelude.{◌≡◌, ℕ, List, All}
+use Rattle.std.specs.Prelude.{◌≡◌, ℕ, Bool, List, All, Option}
 use Rattle.run_record.specs.declared.limits.Limits.{Limits}
 use Rattle.run_record.specs.declared.plan.Turn.{Turn}
 use Rattle.run_record.specs.declared.finished.Finished.{Finished}
@@ -10,18 +10,17 @@ use Rattle.run_laws.specs.Lawful.{IsLawful, IsWholeRun}
 use Rattle.run_laws.specs.Reports.{Kept, AreReports}
 use Rattle.report_laws.specs.Races.{StandsForRace}
 use Rattle.machine_laws.specs.Machine.{bare_of}
-use Rattle.detector.specs.Told.{no_rule}
 
 -- what was reported, and how many races were suppressed and how many equal to a report
 abbrev pub kept_in : Finished → Kept
 kept_in f = record { reports = f.reports; suppressed = f.suppressed; equal = f.equal }
 
--- What is kept is a run of the file by the limits and the plan. Its history is lawful and that of a whole run, which came to
+-- What is kept is a run of the file by the limits and the plan, with rules that two stacks may meet. Its history is lawful and that of a whole run, which came to
 -- that last state. Its reports are those of the history, and each stands for a race: two accesses that conflict, neither
 -- of which happens before the other. Its output is that of the bare machine over the history's instructions.
-pub record IsRun (file : List ℕ) (limits : Limits) (plan : List Turn) (f : Finished) : Type 0 where
+pub record IsRun (file : List ℕ) (limits : Limits) (plan : List Turn) (meets : Option (List ℕ) → Option (List ℕ) → Bool) (f : Finished) : Type 0 where
   pub lawful : IsLawful OneByOne limits plan (bare_of file limits.harts) (granule_of file) f.history.entries
   pub whole : IsWholeRun OneByOne limits plan (bare_of file limits.harts) f.history.entries f.last
-  pub reports : AreReports limits (granule_address file) no_rule (moments f.history.entries) (kept_in f)
+  pub reports : AreReports limits (granule_address file) meets (moments f.history.entries) (kept_in f)
   pub races : All (StandsForRace (granule_of file) (granule_address file) (moments f.history.entries)) f.reports
   pub output : f.output ≡ (state_after (bare_of file limits.harts) f.history.entries).output

@@ -1,5 +1,5 @@
 // The rounds of a run.
-ghost use Rattle.std.specs.Prelude.{true, ◌≡◌, ◌<◌, ◌≤◌, ◌+◌, IfOk, OnOk, IfSome, List, length, drop, option_map};
+ghost use Rattle.std.specs.Prelude.{true, ◌≡◌, ◌<◌, ◌≤◌, ◌+◌, ℕ, Bool, Option, IfOk, OnOk, IfSome, List, length, drop, option_map};
 ghost use Rattle.run_record.specs.declared.plan.Turn.{Turn};
 ghost use Rattle.bare_machine.specs.World.{lives};
 ghost use Rattle.run_laws.specs.Faithful.{OneByOne};
@@ -8,11 +8,13 @@ ghost use Rattle.machine_laws.specs.Machine.{bare_of};
 ghost use Rattle.thread_turns.specs.Ranges.{AreLimits};
 ghost use Rattle.step_engine.specs.Live.{live_of};
 ghost use Rattle.step_engine.specs.Progress.{progress, due_of, limits_of, CanRound, MakesTurns, MakesRound, IsReady};
+ghost use Rattle.report_text.specs.Offers.{is_met};
+ghost use Rattle.step_engine.specs.Rounds.{Told};
 ghost use Rattle.step_engine.specs.Run.{IsRun};
 
 use crate::turns::{due_turn, end_in, next_live};
 use elf_image::Image;
-use report_text::Reporter;
+use report_text::{Reporter, Suppressions};
 use run_record::{
     Bytes, Entries, Finished, GuestEnd, LastState, Limits, NoMemory, Plan, Record, Turn,
 };
@@ -47,6 +49,7 @@ impl Engine {
         ensures start { IfOk result (λ e. (plan : List Turn) → progress e plan ≡ rounds.at_start limits.now plan) }
         ensures turn { IfOk result (λ e. e.turn ≡ 0) }
         ensures ready { IfOk result (IsReady image.now limits.now) }
+        ensures told { IfOk result (λ e. (meets : Option (List ℕ) → Option (List ℕ) → Bool) → Told meets image.now limits.now e.entries e.reporter) }
     {
         Ok(Engine {
             watched: WatchedMachine::new(alloc, image, limits)?,
@@ -112,17 +115,26 @@ impl Engine {
         })
     }
 
-    fn round(&mut self, alloc: Global, image: &Image<'_>, due: Due) -> Result<(), NoMemory>
+    // A round, whose reports are offered at its end.
+    fn round<S: Suppressions>(
+        &mut self,
+        alloc: Global,
+        image: &Image<'_>,
+        suppressions: &S,
+        due: Due,
+    ) -> Result<(), NoMemory>
         requires can { CanRound self.old due }
         requires some { 0 < due.given }
         requires ready { IsReady image.now (limits_of self.old) self.old }
-        ensures { OnOk result (MakesRound image.now (limits_of self.old) self.old self.new due) }
+        requires told { Told (is_met (S.rule_met suppressions.now)) image.now (limits_of self.old) self.old.entries self.old.reporter }
+        ensures made { OnOk result (MakesRound image.now (limits_of self.old) self.old self.new due) }
+        ensures told { OnOk result (Told (is_met (S.rule_met suppressions.now)) image.now (limits_of self.old) self.new.entries self.new.reporter) }
     {
         image.accepted();
         let end = self.turns(alloc, image, due)?;
         self.watched
             .detector
-            .tell(alloc, image, &mut self.reporter)?;
+            .tell(alloc, image, suppressions, &mut self.reporter)?;
         self.last_era = self.watched.detector.era();
         self.turn = due.turn;
         self.last = Some(due.tid);
@@ -134,18 +146,22 @@ impl Engine {
         Ok(())
     }
 
-    fn run(
+    // Rounds up to the end of the run.
+    fn run<S: Suppressions>(
         &mut self,
         alloc: Global,
         image: &Image<'_>,
         limits: &Limits,
         plan: &[Turn],
+        suppressions: &S,
     ) -> Result<GuestEnd, NoMemory>
         requires reached { rounds.Reaches OneByOne limits.now (bare_of image.now limits.now.harts) plan.now (progress self.old plan.now) }
         requires turn { self.old.turn ≤ length plan.now }
         requires ready { IsReady image.now limits.now self.old }
+        requires told { Told (is_met (S.rule_met suppressions.now)) image.now limits.now self.old.entries self.old.reporter }
         ensures reached { OnOk result (rounds.Reaches OneByOne limits.now (bare_of image.now limits.now.harts) plan.now (progress self.new plan.now)) }
         ensures ready { OnOk result (IsReady image.now limits.now self.new) }
+        ensures told { OnOk result (Told (is_met (S.rule_met suppressions.now)) image.now limits.now self.new.entries self.new.reporter) }
         ensures ends { IfOk result (rounds.Ends OneByOne limits.now (bare_of image.now limits.now.harts) (progress self.new plan.now)) }
     {
         'rounds: loop {
@@ -158,24 +174,25 @@ impl Engine {
             if due.given == 0 {
                 return Ok(GuestEnd::Budget);
             }
-            self.round(alloc, image, due)?;
+            self.round(alloc, image, suppressions, due)?;
         }
     }
 }
 
-/// The run of an image by a plan, with the reports of its races. No rule suppresses a report.
-pub fn run_plan(
+/// The run of an image by a plan, with the reports of its races that no rule suppresses.
+pub fn run_plan<S: Suppressions>(
     alloc: Global,
     image: &Image<'_>,
     limits: &Limits,
     plan: &Plan,
+    suppressions: &S,
 ) -> Result<Finished, NoMemory>
     requires { AreLimits limits.now }
-    ensures { IfOk result (IsRun image.now limits.now plan.now) }
+    ensures { IfOk result (IsRun image.now limits.now plan.now (is_met (S.rule_met suppressions.now))) }
 {
     image.accepted();
     let mut engine = Engine::new(alloc, image, limits)?;
-    let end = engine.run(alloc, image, limits, plan.as_slice())?;
+    let end = engine.run(alloc, image, limits, plan.as_slice(), suppressions)?;
     let last = LastState {
         threads: engine.watched.machine.threads(),
         rounds: engine.round,

@@ -1,3 +1,4 @@
+pub mod FrameTexts
 pub mod Spans
 pub mod Reading
 pub mod Program

@@ -6,13 +6,14 @@
 //! first sequence that has it (DWARF 2 to 4, "Line Number Information"). `run_record` names want of memory. A table that
 //! is malformed gives no names; a unit that is malformed or of another version gives no lines.
 //!
-//! In contracts names are the tables that they were read from, `tables_of` of `specs/Frames.antt`; a frame's name is
-//! `name_of` of `specs/Symbols.antt`, and its file and line are `position_at` of `specs/Lines.antt`. The layers above use
-//! the clauses of these two calls. `read` sorts functions and sequences, also where they nest or overlap, into tables of
-//! steps, and keeps of each sequence the rows that a place can have; `frame` is a binary search in each of them and takes
-//! no memory.
+//! In contracts names are the tables that they were read from, `tables_of` of `specs/Frames.antt`; a frame is `frame_in`
+//! there: its name is `name_of` of `specs/Symbols.antt`, and its file and line are `position_at` of `specs/Lines.antt`. The
+//! layers above use the clauses of these two calls, and know names as `Frames`. `read` sorts functions and sequences, also
+//! where they nest or overlap, into tables of steps, and keeps of each sequence the rows that a place can have; `frame` is
+//! a binary search in each of them and takes no memory.
 #![tactic(auto)]
 
+mod frames;
 mod machine;
 mod names;
 mod operations;
@@ -27,4 +28,5 @@ mod symbols;
 mod tests;
 mod units;
 
-pub use names::{Frame, Names};
+pub use frames::{Frame, Frames, Unnamed};
+pub use names::Names;

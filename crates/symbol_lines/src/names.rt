@@ -1,6 +1,7 @@
 // Names of code places.
 ghost use Rattle.std.specs.Prelude.{◌≡◌, IfOk};
 
+use crate::frames::{Frame, Frames};
 use crate::machine::Sequence;
 use crate::positions::find_position;
 use crate::sequences::{AllLines, read_lines, sequence_spans};
@@ -10,14 +11,6 @@ use elf_image::Image;
 use run_record::NoMemory;
 use std::alloc::Global;
 use std::marker::Model;
-
-/// The function, the file and the line of a place: empty texts and 0 where they are not known.
-#[derive(Clone, Copy)]
-pub struct Frame<'a> {
-    pub name: &'a str,
-    pub file: &'a str,
-    pub line: u64,
-}
 
 /// The names of an executable's code places. Contracts see the tables of the file that they are read from.
 #[derive(Drop)]
@@ -79,21 +72,22 @@ impl<'a> Names<'a> {
     }
 }
 
-impl Names<'_> {
-    ghost use Rattle.symbol_lines.specs.Symbols.{name_of};
-    ghost use Rattle.symbol_lines.specs.Lines.{position_at, sequences};
-    ghost use Rattle.symbol_lines.specs.KeptLines.{position_view};
+impl Frames for Names<'_> {
+    ghost use Rattle.symbol_lines.specs.Frames.{frame_in};
 
-    /// What is known of a place. It takes no memory.
-    pub fn frame(&self, place: u64) -> Frame<'_>
-        ensures name { result.name.now ≡ name_of self.now.symbols self.now.strings place }
-        ensures file { result.file.now ≡ (position_at (sequences self.now.lines) place).file }
-        ensures line { result.line ≡ (position_at (sequences self.now.lines) place).line }
-    {
+    ghost frame_of = { frame_in };
+
+    fn frame(&self, place: u64) -> Frame<'_> {
         let name = self.name(place);
         let (file, line) = self.position(place);
         Frame { name, file, line }
     }
+}
+
+impl Names<'_> {
+    ghost use Rattle.symbol_lines.specs.Symbols.{name_of};
+    ghost use Rattle.symbol_lines.specs.Lines.{position_at, sequences};
+    ghost use Rattle.symbol_lines.specs.KeptLines.{position_view};
 
     // The name of the function over a place.
     fn name(&self, place: u64) -> &str

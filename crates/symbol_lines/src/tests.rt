@@ -1,5 +1,5 @@
 // Files made by hand, and the frames of their places.
-use crate::Names;
+use crate::{Frames, Names};
 use elf_image::load;
 use std::alloc::{AllocError, Global};
 use std::test::Fail;

@@ -1,19 +1,43 @@
 -- How a call of the tool may end, and what it then has done.
-use Rattle.std.specs.Prelude.{◌≡◌, ◌<◌, ◌≤◌, ◌⊎◌, ℕ, Bool, true, false, List, [], length, Option, Some, None, Ok, Err, IfSome}
+use Rattle.std.specs.Prelude.{◌≡◌, ◌<◌, ◌≤◌, ◌⊎◌, ℕ, Bool, true, false, List, [], length, nat_lt, if◌then◌else◌, Option, Some, None, Result, Ok, Err, IfSome, option_and_then}
 use Rattle.tool_ports.specs.Ports.{Rose, HasFile, Appends, AppendsPart, file_named}
+use Rattle.elf_image.specs.declared.fault.ElfFault.{ElfFault}
 use Rattle.elf_image.specs.File.{image_of}
+use Rattle.command_words.specs.declared.request.UsageFault.{UsageFault}
+use Rattle.command_words.specs.declared.request.UsageFault.TheVariants as usage
+use Rattle.command_words.specs.Requests.{TaskText, run, step, generate, RequestText}
+use Rattle.gen_program.specs.Program.{program}
+use Rattle.symbol_lines.specs.Frames.{tables_of, frame_in}
+use Rattle.suppress_rules.specs.declared.rule.Rule.{Rule}
+use Rattle.suppress_rules.specs.declared.fault.RuleFault.{RuleFault}
+use Rattle.suppress_rules.specs.RuleFile.{rules_of}
+use Rattle.suppress_rules.specs.Stacks.{first_met, places_of}
+use Rattle.report_text.specs.Offers.{is_met}
+use Rattle.report_text.specs.Status.{status_of}
 use Rattle.step_engine.specs.Run.{IsRun}
 use Rattle.run_record.specs.declared.finished.Finished.{Finished}
-use Rattle.report_text.specs.Status.{status_of}
 use Rattle.tsanrun_cli.specs.declared.ended.End.{End}
-use Rattle.tsanrun_cli.specs.declared.ended.End.TheVariants.{Done, Usage, Elf, FileTooLong, ReadFault, WriteFault, NoMemory}
-use Rattle.tsanrun_cli.specs.Words.{default_limits, file_limit}
-use Rattle.tsanrun_cli.specs.Texts.{text_of}
+use Rattle.tsanrun_cli.specs.declared.ended.End.TheVariants.{Done, Usage, Elf, Rules, FileTooLong, ReadFault, WriteFault, NoMemory}
+use Rattle.tsanrun_cli.specs.Texts.{out_text, err_text}
+
+-- the greatest length of an executable and of a file of rules
+abbrev pub file_limit : ℕ
+file_limit = 25165824
+
+-- Threads can't run at once yet: the command `run` is refused as no command.
+abbrev pub one_by_one : RequestText → TaskText → Result RequestText UsageFault
+one_by_one request (run file) = Err usage.Command
+one_by_one request (step file) = Ok request
+one_by_one request (generate seed size) = Ok request
+
+abbrev pub served : Result RequestText UsageFault → Result RequestText UsageFault
+served (Err fault) = Err fault
+served (Ok request) = one_by_one request request.task
 
 -- What a call was given, and its counts before and after.
 pub record Call : Type 0 where
-  -- the file that the words name, if they are in the grammar
-  pub file : Option (List ℕ)
+  -- what the words ask for, or why they are refused
+  pub asked : Result RequestText UsageFault
   -- what the files tell
   pub told : Option (List (List ℕ × List ℕ))
   pub reads_before : ℕ
@@ -21,23 +45,127 @@ pub record Call : Type 0 where
   -- the name of the last read that failed
   pub failed : List ℕ
 
--- The named file has these bytes, where files are told.
-pub record Names (call : Call) (bytes : List ℕ) : Type 0 where
-  pub name : List ℕ
-  pub file_is : call.file ≡ Some name
-  pub has : HasFile call.told name bytes
+-- ---- what a call reads
 
--- They are within the limit, too.
-pub record NamesShort (call : Call) (bytes : List ℕ) : Type 0 where
-  pub names : Names call bytes
+-- The named file has these bytes, where files are told. They are within the limit.
+pub record HasShortFile (told : Option (List (List ℕ × List ℕ))) (name bytes : List ℕ) : Type 0 where
+  pub has : HasFile told name bytes
   pub fits : length bytes ≤ file_limit
+
+-- the named file passes the limit, where files are told
+pub record HasLongFile (told : Option (List (List ℕ × List ℕ))) (name : List ℕ) : Type 0 where
+  pub bytes : List ℕ
+  pub has : HasFile told name bytes
+  pub passes : IfSome told (λ files. file_limit < length bytes)
+
+-- the words ask to run that file, one thread at a time
+pub record AsksToStep (call : Call) (request : RequestText) (file : List ℕ) : Type 0 where
+  pub asked : call.asked ≡ Ok request
+  pub task : request.task ≡ step file
+
+-- they do, and the file is an executable that the loader accepts
+pub record StepsAccepted (call : Call) (request : RequestText) (file bytes : List ℕ) : Type 0 where
+  pub asks : AsksToStep call request file
+  pub executable : HasShortFile call.told file bytes
+  pub accepted : image_of bytes ≡ Ok bytes
+
+-- ---- what a call runs
+
+-- the executable of a task: the named file's bytes, or those of the made program
+abbrev pub IsExecutable : Option (List (List ℕ × List ℕ)) → TaskText → List ℕ → Type 0
+IsExecutable told (run file) bytes = ⊥
+IsExecutable told (step file) bytes = HasShortFile told file bytes
+IsExecutable told (generate seed size) bytes = bytes ≡ program seed size
+
+-- the name of the file of rules that a task reads: a made program is run without rules
+abbrev pub rules_file : TaskText → Option (List ℕ) → Option (List ℕ)
+rules_file (run file) name = None
+rules_file (step file) name = name
+rules_file (generate seed size) name = None
+
+-- the rules of the named file, and none without one
+abbrev pub AreRules : Option (List (List ℕ × List ℕ)) → Option (List ℕ) → List Rule → Type 0
+AreRules told None rules = rules ≡ []
+AreRules told (Some name) rules = (bytes : List ℕ) × HasShortFile told name bytes × (rules_of bytes ≡ Ok rules)
+
+-- The call runs that request, over that executable and with those rules.
+pub record Serves (call : Call) (request : RequestText) (bytes : List ℕ) (rules : List Rule) : Type 0 where
+  pub asked : call.asked ≡ Ok request
+  pub executable : IsExecutable call.told request.task bytes
+  pub accepted : image_of bytes ≡ Ok bytes
+  pub rules_are : AreRules call.told (rules_file request.task request.suppressions) rules
+
+-- two stacks meet some rule, by the names that the executable's tables tell
+abbrev pub suppressed_by : List Rule → List ℕ → Option (List ℕ) → Option (List ℕ) → Bool
+suppressed_by rules bytes = is_met (λ mine previous. first_met rules (frame_in (tables_of bytes)) (places_of mine) (places_of previous))
+
+-- What is kept is a run that the call serves, by its limits and its plan. Each of its reports stands for a race.
+pub record IsRunOf (call : Call) (request : RequestText) (bytes : List ℕ) (f : Finished) : Type 0 where
+  pub rules : List Rule
+  pub serves : Serves call request bytes rules
+  pub is_run : IsRun bytes request.limits request.plan (suppressed_by rules bytes) f
+
+-- ---- why a call ends so
+
+pub record HasElfFault (call : Call) (fault : ElfFault) : Type 0 where
+  pub request : RequestText
+  pub file : List ℕ
+  pub asks : AsksToStep call request file
+  pub bytes : List ℕ
+  pub executable : HasShortFile call.told file bytes
+  pub refused : image_of bytes ≡ Err fault
+
+-- the executable is too long
+pub record HasLongExecutable (call : Call) : Type 0 where
+  pub request : RequestText
+  pub file : List ℕ
+  pub asks : AsksToStep call request file
+  pub long : HasLongFile call.told file
+
+-- the executable is accepted, and the file of rules is too long
+pub record HasLongRules (call : Call) : Type 0 where
+  pub request : RequestText
+  pub file : List ℕ
+  pub bytes : List ℕ
+  pub steps : StepsAccepted call request file bytes
+  pub name : List ℕ
+  pub named : request.suppressions ≡ Some name
+  pub long : HasLongFile call.told name
+
+-- the executable is accepted, and the file of rules has the fault
+pub record HasRuleFault (call : Call) (fault : RuleFault) : Type 0 where
+  pub request : RequestText
+  pub file : List ℕ
+  pub bytes : List ℕ
+  pub steps : StepsAccepted call request file bytes
+  pub name : List ℕ
+  pub named : request.suppressions ≡ Some name
+  pub text : List ℕ
+  pub rules : HasShortFile call.told name text
+  pub refused : rules_of text ≡ Err fault
+
+-- the count rose, and the last read that failed was of the executable or of the file of rules
+pub record HasReadFault (call : Call) : Type 0 where
+  pub rose : Rose call.reads_before call.reads_after
+  pub request : RequestText
+  pub file : List ℕ
+  pub asks : AsksToStep call request file
+  pub failed : (call.failed ≡ file) ⊎ (request.suppressions ≡ Some call.failed)
+
+-- some executable and rules are served
+pub record ServesSome (call : Call) : Type 0 where
+  pub request : RequestText
+  pub bytes : List ℕ
+  pub rules : List Rule
+  pub serves : Serves call request bytes rules
 
 -- why a call is refused before anything is written
 abbrev pub Refuses : Call → End → Type 0
-Refuses call (Usage fault) = call.file ≡ None
-Refuses call (Elf fault) = (bytes : List ℕ) × NamesShort call bytes × (image_of bytes ≡ Err fault)
-Refuses call FileTooLong = (bytes : List ℕ) × Names call bytes × IfSome call.told (λ _. file_limit < length bytes)
-Refuses call ReadFault = Rose call.reads_before call.reads_after × (call.file ≡ Some call.failed)
+Refuses call (Usage fault) = call.asked ≡ Err fault
+Refuses call (Elf fault) = HasElfFault call fault
+Refuses call (Rules fault) = HasRuleFault call fault
+Refuses call FileTooLong = HasLongExecutable call ⊎ HasLongRules call
+Refuses call ReadFault = HasReadFault call
 Refuses call NoMemory = Unit {0}
 Refuses call WriteFault = ⊥
 Refuses call Done = ⊥
@@ -45,50 +173,78 @@ Refuses call Done = ⊥
 -- why a call ends so
 abbrev pub IsCause : Call → ℕ → ℕ → ℕ → ℕ → End → Type 0
 IsCause call out_before out_after err_before err_after WriteFault = Rose out_before out_after ⊎ Rose err_before err_after
-IsCause call out_before out_after err_before err_after Done = Unit {0}
+IsCause call out_before out_after err_before err_after Done = ServesSome call
 IsCause call out_before out_after err_before err_after end = Refuses call end
-
--- What is kept is a run of the named file, by the default limits and without a plan. Each of its reports stands for a race.
-pub record IsRunOf (call : Call) (f : Finished) : Type 0 where
-  pub bytes : List ℕ
-  pub file : NamesShort call bytes
-  pub accepted : image_of bytes ≡ Ok bytes
-  pub run : IsRun bytes default_limits [] f
 
 abbrev pub refusal_status : End → ℕ
 refusal_status Done = 0
 refusal_status (Usage fault) = 2
 refusal_status (Elf fault) = 3
 refusal_status FileTooLong = 3
+refusal_status (Rules fault) = 4
 refusal_status ReadFault = 5
 refusal_status WriteFault = 6
 refusal_status NoMemory = 7
-
--- what a call that is done has left
-pub record IsDone (call : Call) (out_old out_new err_old err_new : Option (List ℕ)) (status : ℕ) (f : Finished) : Type 0 where
-  pub run : IsRunOf call f
-  pub output : Appends out_old out_new f.output
-  pub text : Appends err_old err_new (text_of f)
-  pub status_is : status ≡ status_of f
-
--- What a call has left whose writing failed: of some run of the named file, a part of the output and nothing else, or the output and a part of what tells of it.
-pub record IsCutOff (call : Call) (out_old out_new err_old err_new : Option (List ℕ)) : Type 0 where
-  pub finished : Finished
-  pub run : IsRunOf call finished
-  pub written : (AppendsPart out_old out_new finished.output × (err_new ≡ err_old)) ⊎ (Appends out_old out_new finished.output × AppendsPart err_old err_new (text_of finished))
-
--- The words are in the grammar, and the files tell an accepted executable within the limit.
-pub record IsGood (call : Call) (bytes : List ℕ) : Type 0 where
-  pub name : List ℕ
-  pub files : List (List ℕ × List ℕ)
-  pub file_is : call.file ≡ Some name
-  pub told_is : call.told ≡ Some files
-  pub has : file_named name files ≡ Some bytes
-  pub fits : length bytes ≤ file_limit
-  pub accepted : image_of bytes ≡ Ok bytes
 
 -- the ends that leave the output as it was and tell one line
 abbrev pub is_refusal : End → Bool
 is_refusal Done = false
 is_refusal WriteFault = false
 is_refusal _ = true
+
+-- ---- what a call has done
+
+-- what a call that is done has left
+pub record IsDone (call : Call) (out_old out_new err_old err_new : Option (List ℕ)) (status : ℕ) (f : Finished) : Type 0 where
+  pub request : RequestText
+  pub bytes : List ℕ
+  pub run : IsRunOf call request bytes f
+  pub output : Appends out_old out_new (out_text request.task bytes f)
+  pub text : Appends err_old err_new (err_text request.task bytes f)
+  pub status_is : status ≡ status_of f
+
+-- What a call has left whose writing failed: of some run that it serves, a part of what goes to the output and nothing else, or all of that
+-- and a part of what goes to the other sink.
+pub record IsCutOff (call : Call) (out_old out_new err_old err_new : Option (List ℕ)) : Type 0 where
+  pub request : RequestText
+  pub bytes : List ℕ
+  pub finished : Finished
+  pub run : IsRunOf call request bytes finished
+  pub written :
+      (AppendsPart out_old out_new (out_text request.task bytes finished) × (err_new ≡ err_old))
+      ⊎ (Appends out_old out_new (out_text request.task bytes finished) × AppendsPart err_old err_new (err_text request.task bytes finished))
+
+-- ---- how a call is to end
+
+-- by what was read in the file of rules
+abbrev pub rules_end : Result (List Rule) RuleFault → End
+rules_end (Ok rules) = Done
+rules_end (Err fault) = Rules fault
+
+-- by the bytes of the file of rules
+abbrev pub end_by_rules : List ℕ → Option End
+end_by_rules text = if nat_lt file_limit (length text) then Some FileTooLong else Some (rules_end (rules_of text))
+
+-- by the name of the file of rules; none where the file is missing
+abbrev pub end_by_rules_file : List (List ℕ × List ℕ) → Option (List ℕ) → Option End
+end_by_rules_file files None = Some Done
+end_by_rules_file files (Some name) = option_and_then end_by_rules (file_named name files)
+
+-- by the executable, and then by the file of rules
+abbrev pub image_end : Option End → Result (List ℕ) ElfFault → Option End
+image_end after (Ok image) = after
+image_end after (Err fault) = Some (Elf fault)
+
+abbrev pub end_by_executable : Option End → List ℕ → Option End
+end_by_executable after bytes = if nat_lt file_limit (length bytes) then Some FileTooLong else image_end after (image_of bytes)
+
+abbrev pub end_by_task : List (List ℕ × List ℕ) → Option (List ℕ) → TaskText → Option End
+end_by_task files rules (run file) = Some (Usage usage.Command)
+end_by_task files rules (step file) = option_and_then (end_by_executable (end_by_rules_file files rules)) (file_named file files)
+end_by_task files rules (generate seed size) = Some Done
+
+-- How a call ends by what its words ask for and by what the files tell, where no read or put fails and memory doesn't run out. None where
+-- a file that it reads is missing.
+abbrev pub end_of : List (List ℕ × List ℕ) → Result RequestText UsageFault → Option End
+end_of files (Err fault) = Some (Usage fault)
+end_of files (Ok request) = end_by_task files request.suppressions request.task

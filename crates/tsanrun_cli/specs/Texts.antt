@@ -1,21 +1,46 @@
 -- What is written.
-use Rattle.std.specs.Prelude.{ℕ, List, [], ◌++◌, codes}
+use Rattle.std.specs.Prelude.{ℕ, Bool, true, false, List, [], ◌++◌, codes, length, if◌then◌else◌}
 use Rattle.std.specs.List.{flat_map}
+use Rattle.std.specs.Fmt.{decimal}
 use Rattle.run_record.specs.declared.finished.Finished.{Finished}
 use Rattle.elf_image.specs.declared.fault.ElfFault.{ElfFault}
 use Rattle.elf_image.specs.declared.fault.ElfFault.TheVariants as faults
-use Rattle.report_text.specs.FrameTexts.{FrameText}
+use Rattle.command_words.specs.Requests.{TaskText, run, step, generate}
+use Rattle.symbol_lines.specs.Frames.{tables_of, frame_in}
+use Rattle.suppress_rules.specs.declared.fault.RuleFault.{RuleFault}
+use Rattle.suppress_rules.specs.declared.fault.RuleFault.TheVariants as rules
 use Rattle.report_text.specs.Texts.{report_text, summary_of}
 use Rattle.tsanrun_cli.specs.declared.ended.End.{End}
-use Rattle.tsanrun_cli.specs.declared.ended.End.TheVariants.{Done, Usage, Elf, FileTooLong, ReadFault, WriteFault, NoMemory}
+use Rattle.tsanrun_cli.specs.declared.ended.End.TheVariants.{Done, Usage, Elf, Rules, FileTooLong, ReadFault, WriteFault, NoMemory}
 
--- no code address has a name, a file or a line
-abbrev pub unnamed : ℕ → FrameText
-unnamed place = record { name = []; file = []; line = 0 }
+-- the line of a made program of so many bytes
+abbrev pub made_line : ℕ → ℕ → ℕ → List ℕ
+made_line seed size bytes = codes "gen: seed " ++ (decimal seed ++ (codes ", size " ++ (decimal size ++ (codes ", file " ++ (decimal bytes ++ codes " bytes\n")))))
 
--- what tells of a run: the text of each report, in order, and then the last line
-abbrev pub text_of : Finished → List ℕ
-text_of f = flat_map (report_text unnamed) f.reports ++ summary_of f
+-- what stands before the last line: for a file the text of each report in order, with the names that the executable's tables
+-- tell, and for a made program its line
+abbrev pub before_summary : TaskText → List ℕ → Finished → List ℕ
+before_summary (run file) bytes f = []
+before_summary (step file) bytes f = flat_map (report_text (frame_in (tables_of bytes))) f.reports
+before_summary (generate seed size) bytes f = made_line seed size (length bytes)
+
+-- what tells of the run of an executable
+abbrev pub text_of : TaskText → List ℕ → Finished → List ℕ
+text_of task bytes f = before_summary task bytes f ++ summary_of f
+
+-- the executable is made
+abbrev pub is_made : TaskText → Bool
+is_made (run file) = false
+is_made (step file) = false
+is_made (generate seed size) = true
+
+-- what is put on the output: what the guest put, or what tells of the run of a made program
+abbrev pub out_text : TaskText → List ℕ → Finished → List ℕ
+out_text task bytes f = if is_made task then text_of task bytes f else f.output
+
+-- what is put on the other sink
+abbrev pub err_text : TaskText → List ℕ → Finished → List ℕ
+err_text task bytes f = if is_made task then [] else text_of task bytes f
 
 -- the faults of an executable by number and name
 abbrev pub executable_line : ElfFault → List ℕ
@@ -33,11 +58,24 @@ executable_line faults.TooMuchMemory = codes "tsanrun: executable fault 11: TooM
 executable_line faults.EntryOutside = codes "tsanrun: executable fault 12: EntryOutside\n"
 executable_line faults.NoMemory = codes "tsanrun: out of memory\n"
 
+-- the faults of rules by number and line
+abbrev pub rules_line : RuleFault → List ℕ
+rules_line (rules.NoColon line) = codes "tsanrun: rules fault 1 in line " ++ (decimal line ++ codes "\n")
+rules_line (rules.UnknownType line) = codes "tsanrun: rules fault 2 in line " ++ (decimal line ++ codes "\n")
+rules_line rules.NotUtf8 = codes "tsanrun: rules fault 3 in line 0\n"
+rules_line rules.NoMemory = codes "tsanrun: out of memory\n"
+
 abbrev pub refusal_line : End → List ℕ
 refusal_line Done = []
 refusal_line WriteFault = []
 refusal_line (Usage fault) = codes "usage: tsanrun run|step FILE [options] or tsanrun gen [options]\n"
 refusal_line (Elf fault) = executable_line fault
+refusal_line (Rules fault) = rules_line fault
 refusal_line FileTooLong = codes "tsanrun: file too long\n"
 refusal_line ReadFault = codes "tsanrun: read failed\n"
 refusal_line NoMemory = codes "tsanrun: out of memory\n"
+
+-- a fault of the rules
+abbrev pub is_rules : End → Bool
+is_rules (Rules fault) = true
+is_rules _ = false

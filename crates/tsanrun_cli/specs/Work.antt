@@ -1,40 +1,78 @@
 -- A run before it is written.
-use Rattle.std.specs.Prelude.{◌≡◌, ℕ, List, [], Option, Ok, Err, map, string_bytes}
+use Rattle.std.specs.Prelude.{◌≡◌, ℕ, List, [], Option, Some, Result, Ok, Err, map, string_bytes, if◌then◌else◌}
 use Rattle.std.specs.List.{flat_map}
 use Rattle.std.specs.declared.string.String.{String}
 use Rattle.std.specs.declared.vec.Vec.{Vec}
 use Rattle.std.specs.declared.alloc.Global.{Global}
-use Rattle.elf_image.specs.File.{image_of}
+use Rattle.tool_ports.specs.Ports.{Rose}
+use Rattle.command_words.specs.Requests.{RequestText, request_of}
+use Rattle.suppress_rules.specs.declared.rule.Rule.{Rule}
+use Rattle.suppress_rules.specs.RuleFile.{rules_of}
 use Rattle.step_engine.specs.Run.{IsRun}
 use Rattle.tsanrun_cli.specs.declared.work.Told.{Told}
 use Rattle.tsanrun_cli.specs.declared.ended.End.{End}
-use Rattle.tsanrun_cli.specs.declared.ended.End.TheVariants.{Done, Usage, Elf, FileTooLong, ReadFault, WriteFault, NoMemory}
-use Rattle.tsanrun_cli.specs.Ends.{Call, IsRunOf}
-use Rattle.tsanrun_cli.specs.Texts.{text_of}
-use Rattle.tsanrun_cli.specs.Words.{file_of, default_limits}
+use Rattle.tsanrun_cli.specs.declared.ended.End.TheVariants.{Done, Usage, Elf, Rules, FileTooLong, ReadFault, WriteFault, NoMemory}
+use Rattle.tsanrun_cli.specs.Ends.{Call, served, HasShortFile, HasLongFile, AreRules, IsRunOf, suppressed_by}
+use Rattle.tsanrun_cli.specs.Texts.{text_of, is_made}
 
 abbrev pub call_of : List (String Global) → Option (List (List ℕ × List ℕ)) → ℕ → ℕ → List ℕ → Call
-call_of words told before after failed = record { file = file_of (map string_bytes words); told = told; reads_before = before; reads_after = after; failed = failed }
+call_of words told before after failed = record { asked = served (request_of (map string_bytes words)); told = told; reads_before = before; reads_after = after; failed = failed }
+
+-- a call whose words ask for that
+abbrev pub asking : RequestText → Option (List (List ℕ × List ℕ)) → ℕ → ℕ → List ℕ → Call
+asking request told before after failed = record { asked = Ok request; told = told; reads_before = before; reads_after = after; failed = failed }
 
 -- the bytes of texts
 abbrev pub bytes_of : Vec ℕ Global → List ℕ
 bytes_of text = text.items
 
+-- the pieces that go to the output, and those that go to the other sink, put together
+abbrev pub out_bytes : Told → List ℕ
+out_bytes t = if t.made then flat_map bytes_of t.texts.items else t.finished.output
+
+abbrev pub err_bytes : Told → List ℕ
+err_bytes t = if t.made then [] else flat_map bytes_of t.texts.items
+
+-- a run that the call serves, and what tells of it
 pub record HasRun (call : Call) (t : Told) : Type 0 where
-  pub run : IsRunOf call t.finished
-  pub texts_are : flat_map bytes_of t.texts.items ≡ text_of t.finished
+  pub request : RequestText
+  pub bytes : List ℕ
+  pub run : IsRunOf call request bytes t.finished
+  pub texts_are : flat_map bytes_of t.texts.items ≡ text_of request.task bytes t.finished
+  pub made_is : t.made ≡ is_made request.task
 
--- the run of these bytes
-pub record IsTold (bytes : List ℕ) (t : Told) : Type 0 where
-  pub accepted : image_of bytes ≡ Ok bytes
-  pub run : IsRun bytes default_limits [] t.finished
-  pub texts_are : flat_map bytes_of t.texts.items ≡ text_of t.finished
+-- the run of an executable by the request, and what tells of it
+pub record IsTold (request : RequestText) (bytes : List ℕ) (rules : List Rule) (t : Told) : Type 0 where
+  pub run : IsRun bytes request.limits request.plan (suppressed_by rules bytes) t.finished
+  pub texts_are : flat_map bytes_of t.texts.items ≡ text_of request.task bytes t.finished
+  pub made_is : t.made ≡ is_made request.task
 
-abbrev pub IsElfFault : List ℕ → End → Type 0
-IsElfFault bytes (Elf fault) = image_of bytes ≡ Err fault
-IsElfFault bytes NoMemory = Unit {0}
-IsElfFault bytes Done = ⊥
-IsElfFault bytes (Usage fault) = ⊥
-IsElfFault bytes FileTooLong = ⊥
-IsElfFault bytes ReadFault = ⊥
-IsElfFault bytes WriteFault = ⊥
+-- ---- reads
+
+-- the counts of reads are as they were
+abbrev pub Stays : ℕ → ℕ → List ℕ → List ℕ → Type 0
+Stays before now old new = (now ≡ before) × (new ≡ old)
+
+-- what a read of the named file may answer, by what the files tell and by the counts before and after
+abbrev pub IsRead : Option (List (List ℕ × List ℕ)) → List ℕ → ℕ → ℕ → List ℕ → List ℕ → Result (Vec ℕ Global) End → Type 0
+IsRead told name before now old new (Ok bytes) = HasShortFile told name bytes.items × Stays before now old new
+IsRead told name before now old new (Err FileTooLong) = HasLongFile told name × Stays before now old new
+IsRead told name before now old new (Err ReadFault) = Rose before now × (new ≡ name)
+IsRead told name before now old new (Err NoMemory) = Unit {0}
+IsRead told name before now old new (Err Done) = ⊥
+IsRead told name before now old new (Err (Usage fault)) = ⊥
+IsRead told name before now old new (Err (Elf fault)) = ⊥
+IsRead told name before now old new (Err (Rules fault)) = ⊥
+IsRead told name before now old new (Err WriteFault) = ⊥
+
+-- what a read of rules may answer, where a file is named or none
+abbrev pub AreRulesRead : Option (List (List ℕ × List ℕ)) → Option (List ℕ) → ℕ → ℕ → List ℕ → List ℕ → Result (List Rule) End → Type 0
+AreRulesRead told named before now old new (Ok rules) = AreRules told named rules × Stays before now old new
+AreRulesRead told named before now old new (Err (Rules fault)) = (name : List ℕ) × (named ≡ Some name) × ((text : List ℕ) × HasShortFile told name text × (rules_of text ≡ Err fault))
+AreRulesRead told named before now old new (Err FileTooLong) = (name : List ℕ) × (named ≡ Some name) × HasLongFile told name
+AreRulesRead told named before now old new (Err ReadFault) = Rose before now × (named ≡ Some new)
+AreRulesRead told named before now old new (Err NoMemory) = Unit {0}
+AreRulesRead told named before now old new (Err Done) = ⊥
+AreRulesRead told named before now old new (Err (Usage fault)) = ⊥
+AreRulesRead told named before now old new (Err (Elf fault)) = ⊥
+AreRulesRead told named before now old new (Err WriteFault) = ⊥

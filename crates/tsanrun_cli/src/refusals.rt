@@ -1,11 +1,15 @@
 // The line of a refusal.
-ghost use Rattle.std.specs.Prelude.{◌≡◌};
+ghost use Rattle.std.specs.Prelude.{◌≡◌, ◌⊎◌, IfOk, false};
 ghost use Rattle.tsanrun_cli.specs.Texts as texts;
-ghost use Rattle.tsanrun_cli.specs.Texts.{refusal_line};
+ghost use Rattle.tsanrun_cli.specs.Texts.{refusal_line, is_rules};
 ghost use Rattle.tsanrun_cli.specs.Ends.{refusal_status};
+ghost use Rattle.tsanrun_cli.specs.Lines.{line_bytes};
 
 use crate::End;
 use elf_image::ElfFault;
+use run_record::NoMemory;
+use std::alloc::Global;
+use suppress_rules::RuleFault;
 
 pub fn status_of(end: End) -> u8
     ensures { result ≡ refusal_status end }
@@ -14,6 +18,7 @@ pub fn status_of(end: End) -> u8
         End::Done => 0,
         End::Usage(_) => 2,
         End::Elf(_) | End::FileTooLong => 3,
+        End::Rules(_) => 4,
         End::ReadFault => 5,
         End::WriteFault => 6,
         End::NoMemory => 7,
@@ -40,16 +45,79 @@ fn executable_line(fault: ElfFault) -> &'static str
     }
 }
 
-/// The line that tells of a refusal, without allocation.
-pub fn line_of(end: End) -> &'static str
-    ensures { result.now ≡ refusal_line end }
+/// A line of text: a fixed one, or one that is made.
+#[derive(Drop)]
+pub enum Line {
+    Fixed(&'static str),
+    Made(String),
+}
+
+impl Line {
+    ghost use Rattle.tsanrun_cli.specs.Lines.{line_bytes};
+
+    pub fn as_str(&self) -> &str
+        ensures { result.now ≡ line_bytes self.now }
+    {
+        match self {
+            Line::Fixed(text) => text,
+            Line::Made(text) => text.as_str(),
+        }
+    }
+}
+
+fn rules_line(alloc: Global, fault: RuleFault) -> Result<Line, NoMemory>
+    ensures { IfOk result (λ line. line_bytes line ≡ texts.rules_line fault) }
+{
+    let line = match fault {
+        RuleFault::NoColon(line) => format!(in alloc; "tsanrun: rules fault 1 in line {line}\n")?,
+        RuleFault::UnknownType(line) => {
+            format!(in alloc; "tsanrun: rules fault 2 in line {line}\n")?
+        }
+        RuleFault::NotUtf8 => return Ok(Line::Fixed("tsanrun: rules fault 3 in line 0\n")),
+        RuleFault::NoMemory => return Ok(Line::Fixed("tsanrun: out of memory\n")),
+    };
+    Ok(Line::Made(line))
+}
+
+fn fixed_line(end: End) -> &'static str
+    ensures { is_rules end ≡ false → result.now ≡ refusal_line end }
 {
     match end {
-        End::Done | End::WriteFault => "",
+        End::Done | End::WriteFault | End::Rules(_) => "",
         End::Usage(_) => { "usage: tsanrun run|step FILE [options] or tsanrun gen [options]\n" }
         End::Elf(fault) => executable_line(fault),
         End::FileTooLong => "tsanrun: file too long\n",
         End::ReadFault => "tsanrun: read failed\n",
         End::NoMemory => "tsanrun: out of memory\n",
+    }
+}
+
+fn line_of(alloc: Global, end: End) -> Result<Line, NoMemory>
+    ensures { IfOk result (λ line. line_bytes line ≡ refusal_line end) }
+{
+    match end {
+        End::Rules(fault) => rules_line(alloc, fault),
+        _ => Ok(Line::Fixed(fixed_line(end))),
+    }
+}
+
+/// How a refused call ends, and the line that tells of it.
+#[derive(Drop)]
+pub struct Refused {
+    pub end: End,
+    pub line: Line,
+}
+
+/// The end with its line. Only the line of a fault of the rules takes memory; where there is none left, that is the end.
+pub fn told_refusal(alloc: Global, end: End) -> Refused
+    ensures end { (result.end ≡ end) ⊎ (result.end ≡ End.NoMemory) }
+    ensures line { line_bytes result.line ≡ refusal_line result.end }
+{
+    match line_of(alloc, end) {
+        Ok(line) => Refused { end, line },
+        Err(NoMemory) => Refused {
+            end: End::NoMemory,
+            line: Line::Fixed("tsanrun: out of memory\n"),
+        },
     }
 }

@@ -1,12 +1,13 @@
 // The top call.
-ghost use Rattle.std.specs.Prelude.{◌≡◌, ◌≢◌, ◌⊎◌, OnOk, OnErr, IsSomeAnd, string_bytes, ℕ, List, true};
+ghost use Rattle.std.specs.Prelude.{◌≡◌, ◌≢◌, ◌⊎◌, OnOk, OnErr, IsSomeAnd, ℕ, List, Some, true};
 ghost use Rattle.std.specs.List.{flat_map};
 ghost use Rattle.tool_ports.specs.Ports.{Appends, AppendsPart, Rose, HasCause};
-ghost use Rattle.tsanrun_cli.specs.Ends.{IsCause, IsDone, IsCutOff, IsGood, is_refusal, refusal_status};
-ghost use Rattle.tsanrun_cli.specs.Work.{call_of, bytes_of};
+ghost use Rattle.tsanrun_cli.specs.Ends as ends;
+ghost use Rattle.tsanrun_cli.specs.Ends.{IsCause, IsDone, IsCutOff, end_of, is_refusal};
+ghost use Rattle.tsanrun_cli.specs.Work.{call_of, bytes_of, out_bytes, err_bytes};
 ghost use Rattle.tsanrun_cli.specs.Texts.{refusal_line};
 
-use crate::refusals::{line_of, status_of as refused};
+use crate::refusals::{status_of as refusal_status, told_refusal};
 use crate::work::{Told, work};
 use crate::{End, Ended};
 use report_text::status_of;
@@ -28,7 +29,8 @@ fn put_some<O: Sink>(out: &mut O, bytes: &[u8]) -> Result<(), SinkFailed>
 /// Puts a line as far as it goes.
 #[tactic(auto, using(crate::proofs::Complete::part_from_all))]
 fn put_line<E: Sink>(err: &mut E, line: &str)
-    ensures { AppendsPart (E.contents err.old) (E.contents err.new) line.now }
+    ensures part { AppendsPart (E.contents err.old) (E.contents err.new) line.now }
+    ensures whole { (Rose (E.faults err.old) (E.faults err.new) → ⊥) → Appends (E.contents err.old) (E.contents err.new) line.now }
 {
     match put_some(err, line.as_bytes()) {
         Ok(()) => return,
@@ -48,16 +50,38 @@ fn put_all<O: Sink>(out: &mut O, pieces: &[Vec<u8>]) -> Result<(), SinkFailed>
     Ok(())
 }
 
+/// Puts a run's output on one sink, and what tells of it on the other; or what tells of the run of a made program, alone, on the
+/// first.
 fn write<O: Sink, E: Sink>(told: &Told, out: &mut O, err: &mut E) -> Result<(), SinkFailed>
-    ensures output { OnOk result (Appends (O.contents out.old) (O.contents out.new) told.now.finished.output) }
-    ensures texts { OnOk result (Appends (E.contents err.old) (E.contents err.new) (flat_map bytes_of told.now.texts.items)) }
+    ensures output { OnOk result (Appends (O.contents out.old) (O.contents out.new) (out_bytes told.now)) }
+    ensures texts { OnOk result (Appends (E.contents err.old) (E.contents err.new) (err_bytes told.now)) }
     ensures cause { OnErr result (Rose (O.faults out.old) (O.faults out.new) ⊎ Rose (E.faults err.old) (E.faults err.new)) }
-    ensures cut { OnErr result ((AppendsPart (O.contents out.old) (O.contents out.new) told.now.finished.output × (E.contents err.new ≡ E.contents err.old)) ⊎ (Appends (O.contents out.old) (O.contents out.new) told.now.finished.output × AppendsPart (E.contents err.old) (E.contents err.new) (flat_map bytes_of told.now.texts.items))) }
+    ensures cut { OnErr result ((AppendsPart (O.contents out.old) (O.contents out.new) (out_bytes told.now) × (E.contents err.new ≡ E.contents err.old)) ⊎ (Appends (O.contents out.old) (O.contents out.new) (out_bytes told.now) × AppendsPart (E.contents err.old) (E.contents err.new) (err_bytes told.now))) }
 {
+    if told.made {
+        return put_all(out, &told.texts);
+    }
     if put_some(out, told.finished.output.as_slice()).is_err() {
         return Err(SinkFailed);
     }
     put_all(err, &told.texts)
+}
+
+/// What a refused call answers, once its line is put.
+fn refuse<E: Sink>(alloc: Global, end: End, err: &mut E) -> Ended
+    requires { is_refusal end ≡ true }
+    ensures end { (result.end ≡ end) ⊎ (result.end ≡ End.NoMemory) }
+    ensures line { AppendsPart (E.contents err.old) (E.contents err.new) (refusal_line result.end) }
+    ensures whole { (Rose (E.faults err.old) (E.faults err.new) → ⊥) → Appends (E.contents err.old) (E.contents err.new) (refusal_line result.end) }
+    ensures kept { (result.kept ≡ None) × (result.status ≡ ends.refusal_status result.end) }
+{
+    let refused = told_refusal(alloc, end);
+    put_line(err, refused.line.as_str());
+    Ended {
+        status: refusal_status(refused.end),
+        end: refused.end,
+        kept: None,
+    }
 }
 
 /// The tool's commands that wait for nobody.
@@ -73,39 +97,34 @@ pub fn tool_step<F: Files, O: Sink, E: Sink>(
     ensures cause { IsCause (call_of words.now (F.contents files.old) (F.faults files.old) (F.faults files.new) (F.failed files.new))
         (O.faults out.old) (O.faults out.new) (E.faults err.old) (E.faults err.new) result.end }
 
-    // A call that is done keeps a run of the named file, each of whose reports stands for a race. The guest's output was
-    // appended to one sink, and the text of each report and the last line to the other.
+    // A call that is done keeps a run that its words ask for, each of whose reports stands for a race. The guest's output was
+    // appended to one sink, and the text of each report and the last line to the other; of a made program two lines to the first.
     ensures done { result.end ≡ End.Done → IsSomeAnd result.kept (IsDone
         (call_of words.now (F.contents files.old) (F.faults files.old) (F.faults files.new) (F.failed files.new))
         (O.contents out.old) (O.contents out.new) (E.contents err.old) (E.contents err.new) result.status) }
 
-    // Where writing failed, each sink has a part of what tells of a run of the named file, in order.
+    // Where writing failed, each sink has a part of what tells of such a run, in order.
     ensures cut { result.end ≡ End.WriteFault → IsCutOff
         (call_of words.now (F.contents files.old) (F.faults files.old) (F.faults files.new) (F.failed files.new))
         (O.contents out.old) (O.contents out.new) (E.contents err.old) (E.contents err.new) }
 
-    // Words in the grammar, an accepted file within the limit and no failed call give a run, unless memory runs out.
-    ensures complete { (bytes : List ℕ)
-        → IsGood (call_of words.now (F.contents files.old) (F.faults files.old) (F.faults files.new) (F.failed files.new)) bytes
+    // Where no read or put fails the call ends as its words and the told files say, unless memory runs out.
+    ensures complete { (told : List (List ℕ × List ℕ)) (end : End)
+        → F.contents files.old ≡ Some told
+        → end_of told (call_of words.now (F.contents files.old) (F.faults files.old) (F.faults files.new) (F.failed files.new)).asked ≡ Some end
         → (Rose (F.faults files.old) (F.faults files.new) → ⊥) → (Rose (O.faults out.old) (O.faults out.new) → ⊥) → (Rose (E.faults err.old) (E.faults err.new) → ⊥)
-        → (result.end ≡ End.Done) ⊎ (result.end ≡ End.NoMemory) }
+        → (result.end ≡ end) ⊎ (result.end ≡ End.NoMemory) }
 
-    // A refusal leaves the output as it was, and puts its line, or a part of it, on the other sink.
+    // A refusal leaves the output as it was, and puts its line on the other sink, or a part of it where the put fails.
     ensures output { is_refusal result.end ≡ true → O.contents out.new ≡ O.contents out.old }
     ensures line { is_refusal result.end ≡ true → AppendsPart (E.contents err.old) (E.contents err.new) (refusal_line result.end) }
+    ensures whole { is_refusal result.end ≡ true → (Rose (E.faults err.old) (E.faults err.new) → ⊥) → Appends (E.contents err.old) (E.contents err.new) (refusal_line result.end) }
 
     // Every other call keeps nothing, and its status is that of its end.
-    ensures refused { result.end ≢ End.Done → (result.kept ≡ None) × (result.status ≡ refusal_status result.end) }
+    ensures refused { result.end ≢ End.Done → (result.kept ≡ None) × (result.status ≡ ends.refusal_status result.end) }
 {
     match work(alloc, words, files) {
-        Err(end) => {
-            put_line(err, line_of(end));
-            Ended {
-                status: refused(end),
-                end,
-                kept: None,
-            }
-        }
+        Err(end) => refuse(alloc, end, err),
         Ok(told) => match write(&told, out, err) {
             Ok(()) => Ended {
                 status: status_of(&told.finished),

@@ -1,16 +1,26 @@
 // From the words to a run and the texts that tell of it.
-ghost use Rattle.std.specs.Prelude.{◌≡◌, ℕ, List, Option, MatchResult, map, string_bytes};
-ghost use Rattle.tsanrun_cli.specs.Ends.{Call, Refuses, IsRunOf};
-ghost use Rattle.tsanrun_cli.specs.Words as grammar;
-ghost use Rattle.tsanrun_cli.specs.Work.{HasRun, IsTold, IsElfFault, call_of};
+ghost use Rattle.std.specs.Prelude.{◌≡◌, ◌≤◌, ℕ, List, [], Ok, IfOk, MatchResult};
+ghost use Rattle.std.specs.Option.{option_map};
+ghost use Rattle.elf_image.specs.File.{image_of};
+ghost use Rattle.command_words.specs.Requests.{request_text, step as asks_step, generate as asks_generate};
+ghost use Rattle.gen_program.specs.Program.{program};
+ghost use Rattle.symbol_lines.specs.Frames.{tables_of};
+ghost use Rattle.step_engine.specs.Run.{IsRun};
+ghost use Rattle.thread_turns.specs.Ranges.{AreLimits};
+ghost use Rattle.tsanrun_cli.specs.Ends.{Refuses, suppressed_by};
+ghost use Rattle.tsanrun_cli.specs.Work.{HasRun, IsTold, IsRead, AreRulesRead, call_of, asking};
 
 use crate::End;
-use crate::texts::texts_of;
-use crate::words::{default_limits, file_of};
-use elf_image::{ElfFault, load};
-use run_record::{Finished, Plan};
+use crate::named_rules::NamedRules;
+use crate::texts::{made_texts, report_texts};
+use command_words::{Refusal, Request, Task, UsageFault, read_words};
+use elf_image::{ElfFault, Image, load};
+use gen_program::make;
+use run_record::{Finished, NoMemory};
 use std::alloc::Global;
 use step_engine::run_plan;
+use suppress_rules::{RuleFault, Rules};
+use symbol_lines::Names;
 use tool_ports::{FileFault, Files};
 
 /// A run, and the pieces of what tells of it.
@@ -18,41 +28,138 @@ use tool_ports::{FileFault, Files};
 pub struct Told {
     pub finished: Finished,
     pub texts: Vec<Vec<u8>>,
+    /// The executable was made, and isn't a file's.
+    pub made: bool,
 }
 
 const FILE_LIMIT: usize = 25_165_824;
 
-/// The run of the file that the words name.
+/// The run that the words ask for.
 pub fn work<F: Files>(alloc: Global, words: &[String], files: &mut F) -> Result<Told, End>
     ensures { let call = call_of words.now (F.contents files.old) (F.faults files.old) (F.faults files.new) (F.failed files.new) in
         MatchResult result (HasRun call) (Refuses call) }
 {
-    let Some(name) = file_of(words) else {
-        return Err(End::Usage(crate::UsageFault::Words));
+    let request = match read_words(alloc, words) {
+        Ok(request) => request,
+        Err(Refusal::Usage(fault)) => return Err(End::Usage(fault)),
+        Err(Refusal::NoMemory) => return Err(End::NoMemory),
     };
-    let bytes = match files.read_all(name, FILE_LIMIT) {
-        Ok(bytes) => bytes,
-        Err(FileFault::Failed) => return Err(End::ReadFault),
-        Err(FileFault::TooLong) => return Err(End::FileTooLong),
-        Err(FileFault::NoMemory) => return Err(End::NoMemory),
-    };
-    run_bytes(alloc, bytes.as_slice())
+    match request.task {
+        Task::Run { .. } => Err(End::Usage(UsageFault::Command)),
+        Task::Step { file } => step(alloc, &request, file, files),
+        Task::Generate { seed, size } => match generate(alloc, &request, seed, size) {
+            Ok(told) => Ok(told),
+            Err(NoMemory) => Err(End::NoMemory),
+        },
+    }
 }
 
-/// The run of an executable's bytes.
-fn run_bytes(alloc: Global, bytes: &[u8]) -> Result<Told, End>
-    ensures { MatchResult result (IsTold bytes.now) (IsElfFault bytes.now) }
+/// Reads a file whole.
+fn read<F: Files>(files: &mut F, name: &str) -> Result<Vec<u8>, End>
+    ensures same { F.contents files.new ≡ F.contents files.old }
+    ensures read { IsRead (F.contents files.old) name.now (F.faults files.old) (F.faults files.new) (F.failed files.old) (F.failed files.new) result }
 {
-    let image = match load(alloc, bytes) {
+    match files.read_all(name, FILE_LIMIT) {
+        Ok(bytes) => Ok(bytes),
+        Err(FileFault::Failed) => Err(End::ReadFault),
+        Err(FileFault::TooLong) => Err(End::FileTooLong),
+        Err(FileFault::NoMemory) => Err(End::NoMemory),
+    }
+}
+
+/// Reads the rules of a file, if one is named.
+fn read_rules<F: Files>(alloc: Global, files: &mut F, name: Option<&str>) -> Result<Rules, End>
+    ensures { AreRulesRead (F.contents files.old) (option_map (λ n. n.now) name.entry) (F.faults files.old) (F.faults files.new) (F.failed files.old) (F.failed files.new) result }
+{
+    let Some(name) = name else {
+        return Ok(Rules::none(alloc));
+    };
+    let text = read(files, name)?;
+    match Rules::read(alloc, text.as_slice()) {
+        Ok(rules) => Ok(rules),
+        Err(RuleFault::NoMemory) => Err(End::NoMemory),
+        Err(fault) => Err(End::Rules(fault)),
+    }
+}
+
+/// The run of the named file, one thread at a time.
+fn step<F: Files>(
+    alloc: Global,
+    request: &Request<'_>,
+    file: &str,
+    files: &mut F,
+) -> Result<Told, End>
+    requires limits { AreLimits request.now.limits }
+    requires task { (request_text request.now).task ≡ asks_step file.now }
+    ensures { let call = asking (request_text request.now) (F.contents files.old) (F.faults files.old) (F.faults files.new) (F.failed files.new) in
+        MatchResult result (HasRun call) (Refuses call) }
+{
+    let bytes = read(files, file)?;
+    let image = match load(alloc, bytes.as_slice()) {
         Ok(image) => image,
         Err(ElfFault::NoMemory) => return Err(End::NoMemory),
         Err(fault) => return Err(End::Elf(fault)),
     };
-    let Ok(finished) = run_plan(alloc, &image, &default_limits(), &Plan::new(alloc)) else {
-        return Err(End::NoMemory);
+    let rules = read_rules(alloc, files, request.suppressions)?;
+    match step_image(alloc, &image, request, &rules) {
+        Ok(told) => Ok(told),
+        Err(NoMemory) => Err(End::NoMemory),
+    }
+}
+
+/// The run of an executable as the request has it, by the names of its places.
+fn run_named(
+    alloc: Global,
+    image: &Image<'_>,
+    names: &Names<'_>,
+    request: &Request<'_>,
+    rules: &Rules,
+) -> Result<Finished, NoMemory>
+    requires limits { AreLimits request.now.limits }
+    requires names { names.now ≡ tables_of image.now }
+    ensures { IfOk result (IsRun image.now request.now.limits request.now.plan (suppressed_by rules.now image.now)) }
+{
+    let suppressions = NamedRules { rules, names };
+    run_plan(alloc, image, &request.limits, &request.plan, &suppressions)
+}
+
+/// The run of an executable, with its reports.
+fn step_image(
+    alloc: Global,
+    image: &Image<'_>,
+    request: &Request<'_>,
+    rules: &Rules,
+) -> Result<Told, NoMemory>
+    requires limits { AreLimits request.now.limits }
+    ensures { (file : List ℕ) → (request_text request.now).task ≡ asks_step file → IfOk result (IsTold (request_text request.now) image.now rules.now) }
+{
+    let names = Names::read(alloc, image)?;
+    let finished = run_named(alloc, image, &names, request, rules)?;
+    let texts = report_texts(alloc, &finished, &names)?;
+    Ok(Told {
+        finished,
+        texts,
+        made: false,
+    })
+}
+
+/// The run of a made program, without rules.
+fn generate(alloc: Global, request: &Request<'_>, seed: u32, size: u32) -> Result<Told, NoMemory>
+    requires limits { AreLimits request.now.limits }
+    requires few { size ≤ 10000 }
+    ensures { (request_text request.now).task ≡ asks_generate seed size → IfOk result (λ told. IsTold (request_text request.now) (program seed size) [] told × (image_of (program seed size) ≡ Ok (program seed size))) }
+{
+    let bytes = make(alloc, seed, size)?;
+    let Ok(image) = load(alloc, bytes.as_slice()) else {
+        return Err(NoMemory);
     };
-    let Ok(texts) = texts_of(alloc, &finished) else {
-        return Err(End::NoMemory);
-    };
-    Ok(Told { finished, texts })
+    let names = Names::read(alloc, &image)?;
+    let rules = Rules::none(alloc);
+    let finished = run_named(alloc, &image, &names, request, &rules)?;
+    let texts = made_texts(alloc, seed, size, bytes.len(), &finished)?;
+    Ok(Told {
+        finished,
+        texts,
+        made: true,
+    })
 }

@@ -2,9 +2,8 @@
 ghost use Rattle.std.specs.Prelude.{◌<◌};
 
 use super::closure::check_races;
-use super::plans::run;
 use super::*;
-use run_record::{Limits, Turn};
+use run_record::Finished;
 
 /// Numbers by a linear congruence, of which the upper bits are taken.
 #[derive(Drop)]
@@ -121,28 +120,68 @@ fn program(alloc: Global, draws: &mut Draws) -> Result<String, AllocError> {
     Ok(text)
 }
 
-fn limits(draws: &mut Draws) -> Limits {
+/// Small limits.
+fn add_limits(alloc: Global, words: &mut Vec<String>, draws: &mut Draws) -> Result<(), AllocError> {
     let harts = 2 + draws.below(3);
-    Limits {
-        harts,
-        slots: harts + draws.below(2),
-        epochs: 2,
-        steps: 20_000,
-        quantum: 1 + draws.below(7),
-        parts: 2,
-        part_words: 64,
+    let slots = harts + draws.below(2);
+    let quantum = 1 + draws.below(7);
+    words.push(format!(in alloc; "--harts={harts}")?)?;
+    words.push(format!(in alloc; "--slots={slots}")?)?;
+    words.push(format!(in alloc; "--quantum={quantum}")?)?;
+    for word in [
+        "--epochs=2",
+        "--steps=20000",
+        "--parts=2",
+        "--part-words=64",
+    ]
+    .iter()
+    {
+        words.push(String::from_str(alloc, word)?)?;
     }
+    Ok(())
 }
 
-fn turns(alloc: Global, draws: &mut Draws) -> Result<Vec<Turn>, AllocError> {
-    let mut turns = Vec::new(alloc);
-    for _ in 0..draws.below(12) {
-        turns.push(Turn {
-            tid: draws.below(5),
-            steps: 1 + draws.below(40),
-        })?;
+/// A plan of up to eleven turns, or none.
+fn add_plan(alloc: Global, words: &mut Vec<String>, draws: &mut Draws) -> Result<(), AllocError> {
+    let mut plan = String::from_str(alloc, "--plan=")?;
+    let turns = draws.below(12);
+    for turn in 0..turns {
+        let tid = draws.below(5);
+        let steps = 1 + draws.below(40);
+        let before = if turn == 0 { "" } else { "," };
+        write!(plan, "{before}{tid}:{steps}")?;
     }
-    Ok(turns)
+    if turns > 0 {
+        words.push(plan)?;
+    }
+    Ok(())
+}
+
+/// The run of a program under such limits.
+fn run<R: Abort>(
+    rt: &R,
+    alloc: Global,
+    program: &str,
+    draws: &mut Draws,
+) -> Result<Finished, Fail> {
+    let file = assemble(alloc, program, &Form::PLAIN)?;
+    let mut words = Vec::new(alloc);
+    for word in ["step", "p"].iter() {
+        words.push(String::from_str(alloc, word)?)?;
+    }
+    add_limits(alloc, &mut words, draws)?;
+    add_plan(alloc, &mut words, draws)?;
+    let ports = Ports {
+        file: &file,
+        rules: b"",
+        failing_reads: &[],
+        failing_puts: &[],
+    };
+    let answer = call_words(alloc, &words, &ports)?;
+    match answer.ended.kept {
+        Some(finished) => Ok(finished),
+        None => panic!(rt; "nothing is kept"),
+    }
 }
 
 #[test]
@@ -152,9 +191,7 @@ fn reports_are_those_of_a_plain_closure(rt: HostRuntime) -> Result<(), Fail> {
     let mut races = 0usize;
     for _ in 0..300 {
         let text = program(alloc, &mut draws)?;
-        let limits = limits(&mut draws);
-        let turns = turns(alloc, &mut draws)?;
-        let finished = run(&rt, alloc, text.as_str(), limits, &turns)?;
+        let finished = run(&rt, alloc, text.as_str(), &mut draws)?;
         let found = check_races(&rt, alloc, &finished, text.as_str())?;
         races = races.saturating_add(found);
     }

@@ -4,30 +4,9 @@ use super::*;
 
 const STEP: [&str; 2] = ["step", "p"];
 
-const USAGE: &str = "usage: tsanrun run|step FILE [options] or tsanrun gen [options]\n";
-
 fn racing_file(alloc: Global) -> Result<Vec<u8>, AssemblyError> {
     let text = "main: N(a) E(write8,0) T; a: E(write8,0) T";
     assemble(alloc, text, &Form::PLAIN)
-}
-
-static OTHER_WORDS: [&[&str]; 5] = [
-    &[],
-    &["run"],
-    &["step"],
-    &["step", "p", "q"],
-    &["step", "-p"],
-];
-
-#[test]
-fn other_words_are_refused(rt: HostRuntime) -> Result<(), Fail> {
-    let alloc = rt.alloc();
-    let file = racing_file(alloc)?;
-    for words in OTHER_WORDS.iter() {
-        let answer = call(alloc, words, &file)?;
-        check(&rt, alloc, &answer, b"", USAGE, 2)?;
-    }
-    Ok(())
 }
 
 const NOT_ELF: &str = "tsanrun: executable fault 1: NotElf\n";
@@ -98,7 +77,7 @@ fn failed_reads_are_told(rt: HostRuntime) -> Result<(), Fail> {
     check(&rt, alloc, &missing, b"", "tsanrun: read failed\n", 5)?;
     let ports = Ports {
         file: &file,
-        rules: "",
+        rules: b"",
         failing_reads: &[1],
         failing_puts: &[],
     };
@@ -123,7 +102,7 @@ fn failed_puts_end_a_run(rt: HostRuntime) -> Result<(), Fail> {
     for (failing_puts, told) in CUT_SUMMARIES.iter() {
         let ports = Ports {
             file: &file,
-            rules: "",
+            rules: b"",
             failing_reads: &[],
             failing_puts,
         };
@@ -148,7 +127,7 @@ fn failed_puts_end_a_run_with_reports(rt: HostRuntime) -> Result<(), Fail> {
     for (failing_puts, told) in CUT_REPORTS.iter() {
         let ports = Ports {
             file: &file,
-            rules: "",
+            rules: b"",
             failing_reads: &[],
             failing_puts,
         };
@@ -164,7 +143,7 @@ fn failed_puts_leave_a_refusal(rt: HostRuntime) -> Result<(), Fail> {
     let alloc = rt.alloc();
     let ports = Ports {
         file: b"",
-        rules: "",
+        rules: b"",
         failing_reads: &[],
         failing_puts: &[(1, 9)],
     };

@@ -2,12 +2,12 @@
 use super::*;
 
 /// How the two accesses of the first example are told.
-const BY_T1: &str = "Write of size 8 at 0x0000000001000000 by thread T1";
+pub const BY_T1: &str = "Write of size 8 at 0x0000000001000000 by thread T1";
 
-const BY_MAIN: &str = "write of size 8 at 0x0000000001000000 by main thread";
+pub const BY_MAIN: &str = "write of size 8 at 0x0000000001000000 by main thread";
 
 /// Two threads write the same eight bytes.
-const RACING: Row<'static> = Row {
+pub const RACING: Row<'static> = Row {
     program: "main: N(a) E(write8,0) T; a: E(write8,0) T",
     races: &[Race {
         mine: BY_T1,

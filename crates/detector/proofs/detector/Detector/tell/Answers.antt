@@ -1,37 +1,39 @@
 use Rattle.std.proofs.Common.{rules, ◌≡◌, [], ◌∷◌, List, length, refl, sym, ap, ◌∙◌, arith}
+use Rattle.std.specs.Prelude.{is_some}
 use Rattle.std.specs.Vec.Iter.{into_iter_items}
-use Rattle.detector.specs.Told.{no_rule}
+use Rattle.report_text.specs.Offers.{is_met}
 use Rattle.detector.proofs.ToldLaws.{Telling, telling_start, next_can, telling_step, telling_end}
 use Rattle.detector.proofs.detector.Detector.tell.Goals as goal
+use Rattle.detector.proofs.detector.Detector.tell.Given.{Over}
 use Rattle.detector.proofs.detector.Detector.tell.Goals.{In-Some}
 
 nothing_left : {X : Type 0} (l : List X) → length l ≡ 0 → l ≡ []
 nothing_left [] h = refl
 nothing_left (x ∷ xs) h = absurd (omega arith)
 
-now : (c : In-Some) → Telling c.args.image.now c.args.self.now c.take_waiting-waiting.new.self c.args.reporter.now c.loop-candidate.reporter c.loop-candidate.yielded (c.in-Some.candidate ∷ into_iter_items c.next.new.self)
-now c = rw c.in-Some.ensures.steps.0 at c.loop-candidate.invariant.0
+now : (g : Over) (c : In-Some g) → Telling (is_met (g.S.Suppressions.rule_met c.args.suppressions.now)) c.args.image.now c.args.self.now c.take_waiting-waiting.new.self c.args.reporter.now c.loop-candidate.reporter c.loop-candidate.yielded (c.in-Some.candidate ∷ into_iter_items c.next.new.self)
+now g c = rw c.in-Some.ensures.steps.0 at c.loop-candidate.invariant.0
 
 pub loop-candidate-init : goal.loop-candidate-init
-loop-candidate-init c =
+loop-candidate-init g c =
     let gives = c.into_iter-candidate-iterator.ensures.into_iter_gives in
     let items : into_iter_items c.into_iter-candidate-iterator.result ≡ c.args.self.now.waiting = gives.0 ∙ c.take_waiting-waiting.ensures.taken in
-    (rw items (telling_start _ _ _ _ c.take_waiting-waiting.ensures.left), search rules)
+    (rw items (telling_start _ _ _ _ _ c.take_waiting-waiting.ensures.left), search rules)
 
 pub previous-requires : goal.previous-requires
-previous-requires c = next_can _ _ _ _ _ _ _ _ (now (goal.at.previous-requires c).In-Some) c.requires.can
+previous-requires g c = next_can _ _ _ _ _ _ _ _ _ (now g (goal.at.previous-requires g c).In-Some) c.requires.can
 
 pub loop-candidate-preserved : goal.loop-candidate-preserved
-loop-candidate-preserved c =
-    let t = now (goal.at.loop-candidate-preserved c).In-Some in
+loop-candidate-preserved g c =
+    let t = now g (goal.at.loop-candidate-preserved g c).In-Some in
     let was = c.loop-candidate.invariant.1 in
     let short = ap length c.in-Some.ensures.steps.0 in
     let gone = c.in-Some.ensures.steps.1 in
-    (telling_step _ _ _ _ _ _ _ _ t c.in_ok-previous.previous c.offer.new.self c.in_ok-previous.ensures (c.in_ok-offer.ensures.kept no_rule refl) c.in_ok-offer.ensures.counted, omega arith)
+    (telling_step _ _ _ _ _ _ _ _ _ t c.in_ok-previous.previous c.offer.new.self c.in_ok-previous.ensures (c.in_ok-offer.ensures.kept (is_met (g.S.Suppressions.rule_met c.args.suppressions.now)) (ap is_some (sym c.rule_met-met.ensures))) c.in_ok-offer.ensures.counted, omega arith)
 
 pub returns : goal.returns
-returns c =
+returns g c =
     let at = c.loop-candidate in
     let none = c.in-None.ensures.steps in
     let empty : into_iter_items at.candidate-iterator ≡ [] = nothing_left _ (sym at.invariant.1 ∙ none.0) in
-    telling_end _ _ _ _ _ _ (rw empty at at.invariant.0)
+    telling_end _ _ _ _ _ _ _ (rw empty at at.invariant.0)

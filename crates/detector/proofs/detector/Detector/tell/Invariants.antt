@@ -1,9 +1,10 @@
 use Rattle.std.proofs.Common.{◌≡◌, length}
 use Rattle.std.specs.Vec.Iter.{into_iter_items, into_iter_len}
+use Rattle.report_text.specs.Offers.{is_met}
 use Rattle.detector.proofs.ToldLaws.{Telling}
 use Rattle.detector.proofs.detector.Detector.tell.Given as goal
 
 abbrev pub invariant-loop-candidate : goal.invariant-loop-candidate
-invariant-loop-candidate l =
-    Telling l.fn.image l.fn.self l.self l.fn.reporter l.reporter l.yielded (into_iter_items l.candidate-iterator)
+invariant-loop-candidate g l =
+    Telling (is_met (g.S.Suppressions.rule_met l.suppressions)) l.fn.image l.fn.self l.self l.fn.reporter l.reporter l.yielded (into_iter_items l.candidate-iterator)
     × (into_iter_len l.candidate-iterator ≡ length (into_iter_items l.candidate-iterator))

@@ -1,18 +1,21 @@
 use Rattle.std.proofs.Common.{rules, refl, sym, ◌∙◌, ◌<◌, subst}
 use Rattle.run_record.specs.declared.limits.Limits.{Limits}
+use Rattle.report_text.specs.Offers.{is_met}
 use Rattle.step_engine.specs.Progress.{MakesRound}
+use Rattle.step_engine.specs.Rounds.{Told}
 use Rattle.step_engine.proofs.RunLaws.{reached-more, ends-itself}
 use Rattle.step_engine.proofs.engine.Engine.run.Goals as goal
 
 pub returns-in-Some-clause-ends : goal.returns-in-Some-clause-ends
-returns-in-Some-clause-ends c = ends-itself _ _ _ _ c.rounds.invariant.ready _ (sym c.end_in.ensures ∙ c.in-Some.is)
+returns-in-Some-clause-ends g c = ends-itself _ _ _ _ c.rounds.invariant.ready _ (sym c.end_in.ensures ∙ c.in-Some.is)
 
 pub rounds-preserved : goal.rounds-preserved
-rounds-preserved c =
+rounds-preserved g c =
     let given : 0 < c.in-Some-due.due.given = search rules in
-    let made = subst (λ (l : Limits). MakesRound c.args.image.now l c.rounds.self c.round.new.self c.in-Some-due.due) c.rounds.invariant.ready.between.follows.stands.limits_are c.in_ok-round.ensures in
+    let made = subst (λ (l : Limits). MakesRound c.args.image.now l c.rounds.self c.round.new.self c.in-Some-due.due) c.rounds.invariant.ready.between.follows.stands.limits_are c.in_ok-round.ensures.made in
     record {
       reached = reached-more _ _ _ _ c.rounds.invariant.ready _ _ c.rounds.invariant.reached (sym c.end_in.ensures ∙ c.in_default.is) (c.due.ensures.due ∙ rw c.in-Some-due.is refl) given c.in-Some-due.ensures.rest made;
       turn = rw made.turn c.in-Some-due.ensures.turn;
       ready = made.ready;
+      told = subst (λ (l : Limits). Told (is_met (g.S.Suppressions.rule_met c.args.suppressions.now)) c.args.image.now l c.round.new.self.entries c.round.new.self.reporter) c.rounds.invariant.ready.between.follows.stands.limits_are c.in_ok-round.ensures.told;
     }

@@ -1,0 +1,7 @@
+use Rattle.std.proofs.Common.{refl}
+use Rattle.command_words.proofs.OnLiterals.{words_on_literals}
+use Rattle.command_words.proofs.laws.any_text.Goals as goal
+
+pub returns : goal.returns
+unfolding words_on_literals
+returns c file rules = refl

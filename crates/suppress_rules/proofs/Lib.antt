@@ -1,0 +1,5 @@
+pub mod CutLaws
+pub mod FileLaws
+pub mod LineLaws
+pub mod MeetLaws
+pub mod PatternLaws

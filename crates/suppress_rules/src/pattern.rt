@@ -1,0 +1,90 @@
+// Patterns, and the texts that they match.
+ghost use Rattle.std.specs.Prelude.{◌≡◌, option_copied};
+ghost use Rattle.suppress_rules.specs.Patterns as patterns;
+ghost use Rattle.suppress_rules.specs.Pieces as pieces;
+
+use crate::cut::cut_at;
+
+/// Whether the pattern matches the text. It compares at most as many bytes as the pattern's length times the text's and one
+/// more.
+pub fn matches(pattern: &[u8], text: &[u8]) -> bool
+    ensures { result ≡ patterns.matches pattern.now text.now }
+{
+    if text.is_empty() {
+        false
+    } else if pattern.starts_with(b"^") {
+        matches_here(&pattern[1..], text)
+    } else {
+        matches_somewhere(pattern, text)
+    }
+}
+
+// Whether the text begins with what the pattern describes.
+fn matches_here(pattern: &[u8], text: &[u8]) -> bool
+    ensures { result ≡ patterns.matches_here pattern.now text.now }
+{
+    if pattern.ends_with(b"$") {
+        matches_body(true, &pattern[..pattern.len() - 1], text)
+    } else {
+        matches_body(false, pattern, text)
+    }
+}
+
+// Whether some end of the text begins with what the pattern describes.
+fn matches_somewhere(pattern: &[u8], text: &[u8]) -> bool
+    ensures { result ≡ patterns.some_end (patterns.matches_here pattern.now) text.now }
+{
+    if pattern.ends_with(b"$") {
+        matches_body_somewhere(true, &pattern[..pattern.len() - 1], text)
+    } else {
+        matches_body_somewhere(false, pattern, text)
+    }
+}
+
+// Whether the text begins with what the pattern describes, and ends there where its end is bound.
+fn matches_body(bound: bool, pattern: &[u8], text: &[u8]) -> bool
+    ensures { result ≡ patterns.matches_body bound pattern.now text.now }
+{
+    match cut_at(pattern, b'*') {
+        Some((piece, rest)) => {
+            text.starts_with(piece) && matches_body_somewhere(bound, rest, &text[piece.len()..])
+        }
+        None if bound => pattern == text,
+        None => text.starts_with(pattern),
+    }
+}
+
+// The same of some end of the text. A piece between two stars is taken at the first place where it stands: the star after it
+// stands for all that a later place would leave out.
+fn matches_body_somewhere(bound: bool, pattern: &[u8], text: &[u8]) -> bool
+    ensures { result ≡ patterns.some_end (patterns.matches_body bound pattern.now) text.now }
+{
+    let mut pattern = pattern;
+    let mut text = text;
+    while let Some((piece, rest)) = cut_at(pattern, b'*') {
+        match after_piece(piece, text) {
+            Some(after) => text = after,
+            None => return false,
+        }
+        pattern = rest;
+    }
+    if bound {
+        text.ends_with(pattern)
+    } else {
+        after_piece(pattern, text).is_some()
+    }
+}
+
+// What stands after the first place of the piece in the text.
+fn after_piece<'a>(piece: &[u8], text: &'a [u8]) -> Option<&'a [u8]>
+    ensures { option_copied result ≡ pieces.after_piece piece.now text.now }
+{
+    let mut rest = text;
+    while !rest.starts_with(piece) {
+        if rest.is_empty() {
+            return None;
+        }
+        rest = &rest[1..];
+    }
+    Some(&rest[piece.len()..])
+}

@@ -1,0 +1,142 @@
+// The rules of a file, and the stacks that meet them.
+ghost use Rattle.std.specs.Prelude.{◌≡◌, ◌⊎◌, [], take, IfOk, IfErr, is_some, Ok, Err};
+ghost use Rattle.std.specs.List.{list_any};
+ghost use Rattle.suppress_rules.specs.RuleFile as file;
+ghost use Rattle.suppress_rules.specs.Stacks as stacks;
+
+use crate::fault::RuleFault;
+use crate::lines::{first_line, rule_in, trimmed};
+use crate::pattern::matches;
+use crate::rule::{Kind, Rule};
+use run_record::{Items, Places};
+use std::alloc::Global;
+use std::marker::Model;
+use symbol_lines::Frames;
+
+/// The rules of a file, in its order. Contracts see the list of their kinds and patterns.
+#[derive(Drop)]
+pub struct Rules {
+    rules: Items<Rule>,
+}
+
+impl Model for Rules {
+    ghost use Rattle.std.specs.Prelude.{List};
+    ghost use Rattle.suppress_rules.specs.declared.rule.Rule as row;
+
+    ghost Value = { List row.Rule };
+
+    ghost view = { λ r. r.rules };
+}
+
+impl Rules {
+    /// No rules. It takes no memory.
+    pub fn none(alloc: Global) -> Rules
+        ensures { result ≡ [] }
+    {
+        Rules {
+            rules: Items::new(alloc),
+        }
+    }
+
+    /// The rules of a file, or its first fault: that it isn't UTF-8 comes before all others, which come in the order of
+    /// lines.
+    ///
+    /// Lines end at a newline. Spaces, tabs and carriage returns at both ends of a line are dropped, and lines that are then
+    /// empty or begin with `#` are skipped. Each other line is a rule: a type, `:` and a pattern. It takes memory for each
+    /// rule and its pattern.
+    pub fn read(alloc: Global, bytes: &[u8]) -> Result<Rules, RuleFault>
+        ensures read { IfOk result (λ rules. file.rules_of bytes.now ≡ Ok rules) }
+        ensures refused { IfErr result (λ fault. (fault ≡ RuleFault.NoMemory) ⊎ (file.rules_of bytes.now ≡ Err fault)) }
+    {
+        match std::str::from_utf8(bytes) {
+            Ok(text) => read_lines(alloc, text.as_bytes()),
+            Err(_) => Err(RuleFault::NotUtf8),
+        }
+    }
+
+    /// The number, from 0, of the first rule that the frames of two stacks meet; a lost stack is an empty one. It takes no
+    /// memory.
+    pub fn meets<F: Frames>(&self, frames: &F, one: &[u64], other: &[u64]) -> Option<usize>
+        ensures { result ≡ stacks.first_met self.now (F.frame_of frames.now) one.now other.now }
+    {
+        self.rules
+            .as_slice()
+            .iter()
+            .position(|rule| is_met(rule, frames, one, other))
+    }
+}
+
+/// The number, from 0, of the first rule that the frames of two stacks meet, of which each may be lost. It takes no memory.
+pub fn first_met<F: Frames>(
+    rules: &Rules,
+    frames: &F,
+    one: &Option<Places>,
+    other: &Option<Places>,
+) -> Option<usize>
+    ensures first { result ≡ stacks.first_met rules.now (F.frame_of frames.now) (stacks.places_of one.now) (stacks.places_of other.now) }
+    ensures met { is_some result ≡ stacks.meets_of rules.now (F.frame_of frames.now) one.now other.now }
+{
+    rules.meets(frames, places_of(one), places_of(other))
+}
+
+// The rules of a file's lines, or their first fault.
+fn read_lines(alloc: Global, bytes: &[u8]) -> Result<Rules, RuleFault>
+    ensures read { IfOk result (λ rules. file.rules_from 1 (file.lines_of bytes.now) ≡ Ok rules) }
+    ensures refused { IfErr result (λ fault. (fault ≡ RuleFault.NoMemory) ⊎ (file.rules_from 1 (file.lines_of bytes.now) ≡ Err fault)) }
+{
+    let mut rules = Items::new(alloc);
+    let mut rest = bytes;
+    let mut number = 0u64;
+    while !rest.is_empty() {
+        let (line, below) = first_line(rest);
+        number += 1;
+        if let Some((kind, pattern)) = rule_in(number, trimmed(line))? {
+            let pattern = Items::from_vec(Vec::from_slice(alloc, pattern)?);
+            rules.push(Rule { kind, pattern })?;
+        }
+        rest = below;
+    }
+    Ok(Rules { rules })
+}
+
+// The places of a stack, and none of a lost one.
+fn places_of(stack: &Option<Places>) -> &[u64]
+    ensures { result.now ≡ stacks.places_of stack.now }
+{
+    match stack {
+        Some(places) => places.as_slice(),
+        None => &[],
+    }
+}
+
+fn is_met<F: Frames>(rule: &Rule, frames: &F, one: &[u64], other: &[u64]) -> bool
+    ensures { result ≡ stacks.is_met (F.frame_of frames.now) one.now other.now rule.now }
+{
+    let pattern = rule.pattern.as_slice();
+    match rule.kind {
+        Kind::Race => {
+            some_frame_matches(pattern, frames, one) || some_frame_matches(pattern, frames, other)
+        }
+        Kind::RaceTop => {
+            some_frame_matches(pattern, frames, top_of(one))
+                || some_frame_matches(pattern, frames, top_of(other))
+        }
+        Kind::NeverMet => false,
+    }
+}
+
+// The first place alone, if there is one.
+fn top_of(places: &[u64]) -> &[u64]
+    ensures { result.now ≡ take 1 places.now }
+{
+    &places[..places.len().min(1)]
+}
+
+fn some_frame_matches<F: Frames>(pattern: &[u8], frames: &F, places: &[u64]) -> bool
+    ensures { result ≡ list_any (λ place. stacks.frame_matches pattern.now (F.frame_of frames.now place)) places.now }
+{
+    places.iter().any(|place| {
+        let frame = frames.frame(*place);
+        matches(pattern, frame.name.as_bytes()) || matches(pattern, frame.file.as_bytes())
+    })
+}

@@ -1,0 +1,23 @@
+use Rattle.std.proofs.Common.{rules, ◌≡◌, List, ℕ, subst, sym, refl, inl, inr}
+use Rattle.tsanrun_cli.proofs.Complete.{complete_from, refused_complete, out_is, err_is}
+use Rattle.tsanrun_cli.proofs.tool.tool_step.Goals as goal
+
+pub returns-in-Err-clause-complete : goal.returns-in-Err-clause-complete
+returns-in-Err-clause-complete g c = λ told end is to reads out err.
+    refused_complete _ told _ _ _ _ c.in-Err.end c.refuse.result.end end is c.refuse.ensures.end c.in-Err.ensures to reads out err
+
+pub returns-in-Ok-write-clause-complete : goal.returns-in-Ok-write-clause-complete
+returns-in-Ok-write-clause-complete g c = λ told end is to reads out err.
+    let run = c.in-Ok.ensures in
+    complete_from _ told is _ _ _ _ _ end (record { request = run.request; bytes = run.bytes; rules = run.run.rules; serves = run.run.serves }) to reads out err
+
+pub returns-in-Err-write-clause-cut : goal.returns-in-Err-write-clause-cut
+returns-in-Err-write-clause-cut g c = λ e.
+    let run = c.in-Ok.ensures in
+    record {
+      request = run.request;
+      bytes = run.bytes;
+      finished = c.in-Ok.told.finished;
+      run = run.run;
+      written = rw (out_is _ _ run, err_is _ _ run) at c.in-Err-write.ensures.cut;
+    }
