@@ -3,3 +3,4 @@ pub mod Making
 pub mod Together
 pub mod Run
 pub mod Listed
+pub mod Rounds

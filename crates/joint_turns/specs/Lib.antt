@@ -1,2 +1,3 @@
 pub mod Joint
 pub mod Along
+pub mod Rounds

@@ -9,7 +9,8 @@
 //!
 //! `place_turns` has the machine and `place_clocks` the labels and clocks; both stand below this crate with what is below
 //! them. Its functions do nothing: the contract of each is a law. The layer above starts with `start_law`, and cites
-//! `listed_law` of the turns of each round, or `turns_law` of calls one after another, and `era_law` where an era begins.
+//! `rounds_law` of its rounds, or `listed_law` of the turns of one, `era_law` where an era begins, and `turns_law` of calls one
+//! after another.
 #![tactic(auto)]
 
 ghost use Rattle.std.specs.Prelude.{◌≡◌, ℕ, ◌+◌, suc, List, length, Ok};
@@ -19,9 +20,11 @@ ghost use Rattle.bare_machine.specs.World.{World, start};
 ghost use Rattle.turn_orders.specs.Lists.{Each, SameMembers};
 ghost use Rattle.turn_orders.specs.Machine.{Call, State, after, tells, many, acts};
 ghost use Rattle.turn_orders.specs.LineUp.{IsLineUp, IsSorted, Stamped, stamped, plain, calls};
+ghost use Rattle.turn_orders.specs.Rounds.{AreRounds, last_made};
 ghost use Rattle.place_clocks.specs.Holds.{StandFrom};
 ghost use Rattle.joint_turns.specs.Joint.{Local, Value, Act, joint_turn, first_state, era_after};
 ghost use Rattle.joint_turns.specs.Along.{IsJoint, ArePlaced, AllTell, StampedDeed, WasPlaced, told_of, items_of, world_along};
+ghost use Rattle.joint_turns.specs.Rounds.{JointRound, between, AllPlaced, RoundsStand, world_after_rounds, position_after};
 
 /// The first state is that of the bare machine's first world, before any history. As everywhere here, so many threads may
 /// live at once, g is the greatest epoch, and there are so many slots.
@@ -63,4 +66,14 @@ pub fn listed_law()
         IsLineUp (stamped (many (joint_turn file harts g))) m xs → IsSorted (λ (l : Stamped Local). l.last) ys → SameMembers xs ys →
         Each (WasPlaced file harts g) xs → StandFrom h n (items_of (told_of ys)) →
         AllTell file w (acts (calls ys)) (told_of ys) }
+{}
+
+/// And so of rounds one after another, with the eras that begin between them.
+pub fn rounds_law()
+    ensures { (file : List ℕ) (harts g slots : ℕ) (w : World) (h : ℕ → Item) (n base : ℕ) (m : State (Stamped Local) (Stamped Value)) (rs : List JointRound) →
+        image_of file ≡ Ok file → IsJoint file harts g slots w h n (plain m) →
+        AreRounds (stamped (many (joint_turn file harts g))) (between slots) (λ (l : Stamped Local). l.last) (λ (x : Stamped Value). x.last) base m rs →
+        AllPlaced file harts g rs → RoundsStand h n rs →
+        IsJoint file harts g slots (world_after_rounds file w rs) h (position_after n rs)
+        (plain (last_made (stamped (many (joint_turn file harts g))) (between slots) (λ (l : Stamped Local). l.last) (λ (x : Stamped Value). x.last) m rs)) }
 {}
