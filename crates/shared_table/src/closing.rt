@@ -39,7 +39,7 @@ fn stripe_of(value: Slot) -> Option<Stripe>
     ensures { result ≡ stripe_in value }
 {
     match value {
-        Some(Object::Stripe(stripe)) => Some(stripe),
+        Some(Object::Stripe(stripe)) => Some(Box::into_inner(stripe)),
         _ => None,
     }
 }
@@ -48,7 +48,7 @@ fn desk_of(value: Slot) -> Option<DeskState>
     ensures { result ≡ desk_in value }
 {
     match value {
-        Some(Object::Desk(desk)) => Some(desk),
+        Some(Object::Desk(desk)) => Some(Box::into_inner(desk)),
         _ => None,
     }
 }
