@@ -162,9 +162,9 @@ firsts_sound image limits lay h k l =
 pub spread_at : (xs : List Slot) (k : ℕ) → k < length xs → get_elem? (spread xs) (slot_place k) ≡ some (slot_at xs k)
 spread_at [] k l = absurd (omega arith)
 spread_at (x ∷ xs) zero l = refl
-spread_at (x ∷ xs) (suc k) l = let e : slot_place (suc k) ≡ suc (suc (slot_place k)) = omega arith in ap (λ (z : ℕ). get_elem? (spread (x ∷ xs)) z) e ∙ spread_at xs k (omega arith)
+spread_at (x ∷ xs) (suc k) l = let e : slot_place (suc k) ≡ suc (suc (suc (suc (slot_place k)))) = omega arith in ap (λ (z : ℕ). get_elem? (spread (x ∷ xs)) z) e ∙ spread_at xs k (omega arith)
 
-pub spread_long : (xs : List Slot) → length (spread xs) ≡ 2 * length xs
+pub spread_long : (xs : List Slot) → length (spread xs) ≡ 4 * length xs
 spread_long [] = refl
 spread_long (x ∷ xs) = let h = spread_long xs in omega arith
 

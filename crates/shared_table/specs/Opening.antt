@@ -37,7 +37,7 @@ pub record AreDealt (image : List ℕ) (limits : Limits) (n : ℕ) (stripes : Li
 abbrev pub HasDesk : Limits → List Slot → List Slot → Type 0
 HasDesk limits objects all = (d : Slot) × IsFirstDesk limits d × (all ≡ objects ++ d ∷ [])
 
--- an empty slot after each value
+-- three empty slots after each value
 abbrev pub spread : List Slot → List Slot
 spread [] = []
-spread (x ∷ xs) = x ∷ None ∷ spread xs
+spread (x ∷ xs) = x ∷ None ∷ None ∷ None ∷ spread xs

@@ -112,13 +112,15 @@ pub(crate) fn with_desk(
     Ok(objects)
 }
 
-/// The values with an empty slot after each.
+/// The values with three empty slots after each.
 pub(crate) fn spread_out(alloc: Global, objects: Vec<Slot>) -> Result<Vec<Slot>, NoMemory>
     ensures { IfOk result (λ v. v.items ≡ spread objects.items) }
 {
-    let mut slots = Vec::with_capacity(alloc, 130)?;
+    let mut slots = Vec::with_capacity(alloc, 260)?;
     for value in objects {
         slots.push(value)?;
+        slots.push(None)?;
+        slots.push(None)?;
         slots.push(None)?;
     }
     Ok(slots)

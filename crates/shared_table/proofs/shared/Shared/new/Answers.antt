@@ -52,7 +52,7 @@ invariant_of-result c =
     let count : ℕ = 520 + 4 * c.granules-granules.result in
     let words : length c.as_slice-2.result.now ≡ count = ap (λ (l : List ℕ). length l) (c.as_slice-2.ensures.value ∙ c.in_ok-words.ensures) ∙ zeros_long count in
     let objects : objects_of lay ≡ 65 = laid.objects in
-    let slots : length c.in_ok-slots.slots.items ≡ 130 = ap (λ (l : List Slot). length l) (c.in_ok-slots.ensures ∙ ap spread (sym firsts)) ∙ (spread_long lay.firsts ∙ omega arith) in (
+    let slots : length c.in_ok-slots.slots.items ≡ 260 = ap (λ (l : List Slot). length l) (c.in_ok-slots.ensures ∙ ap spread (sym firsts)) ∙ (spread_long lay.firsts ∙ omega arith) in (
       record {
         objects = ap objects_of (sym key) ∙ objects;
         same_granules = ap (λ (l : Layout). l.granules) (sym key);
