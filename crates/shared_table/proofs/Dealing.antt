@@ -7,10 +7,11 @@ use lib.ListN.{get_elem?}
 use Rattle.run_record.specs.declared.limits.Limits.{Limits}
 use Rattle.elf_image.specs.File.{granules_of, initial_word}
 use Rattle.slot_desk.specs.Desks.{SlotContents, fresh_slot}
+use Rattle.shared_table.specs.declared.object.DeskState.{DeskState}
 use Rattle.shared_table.specs.declared.object.Object.TheVariants.{Stripe, Desk}
 use Rattle.shared_table.specs.declared.view.Layout.{Layout}
-use Rattle.shared_table.specs.Layouts.{stripe_at, count_below, size_in, place_in, objects_of, first_of, IsFirstStripe, first_desk, IsLaidOut}
-use Rattle.shared_table.specs.Past.{Slot, IsSoundSlot}
+use Rattle.shared_table.specs.Layouts.{stripe_at, count_below, size_in, place_in, objects_of, first_of, IsFirstStripe, IsFirstDesk, IsLaidOut}
+use Rattle.shared_table.specs.Past.{Slot, IsSoundSlot, IsDeskOf}
 use Rattle.shared_table.specs.Rule.{slot_place}
 use Rattle.shared_table.specs.Opening.{words_in, IsBlank, slot_at, AreBlank, AreDealt, spread}
 use Rattle.shared_table.proofs.Pasts.{if_here, if_else}
@@ -122,28 +123,31 @@ many : (n : ℕ) (x : SlotContents) → length (replicate n x) ≡ n
 many zero x = refl
 many (suc n) x = ap suc (many n x)
 
-sound_desk : (limits : Limits) (lay : Layout) (k : ℕ) → k ≡ 64 → lay.limits ≡ limits → IsSoundSlot lay k (first_desk limits)
-sound_desk limits lay k e same = (
+sound_desk : (limits : Limits) (lay : Layout) (k : ℕ) (x : Slot) → k ≡ 64 → lay.limits ≡ limits → IsFirstDesk limits x → IsSoundSlot lay k x
+sound_desk limits lay k None e same first = first
+sound_desk limits lay k (Some (Stripe s)) e same first = absurd first
+sound_desk limits lay k (Some (Desk d)) e same first = (
   e,
-  (ap (λ (z : Limits). z.harts) (sym same), ap (λ (z : Limits). z.epochs) (sym same), many limits.slots (fresh_slot limits.slots) ∙ ap (λ (z : Limits). z.slots) (sym same)),
+  subst (λ (z : DeskState). IsDeskOf lay.limits z.desk) (sym first)
+      (ap (λ (z : Limits). z.harts) (sym same), ap (λ (z : Limits). z.epochs) (sym same), many limits.slots (fresh_slot limits.slots) ∙ ap (λ (z : Limits). z.slots) (sym same)),
 )
 
 module _ (image : List ℕ) (limits : Limits) (lay : Layout) (stripes : List Slot) (places : List ℕ) where
   -- from the dealt stripes and the desk to the layout
-  pub laid_out : AreDealt image limits (granules_of image) stripes places → lay.firsts ≡ stripes ++ first_desk limits ∷ [] → lay.limits ≡ limits → lay.granules ≡ granules_of image
+  pub laid_out : AreDealt image limits (granules_of image) stripes places → (d : Slot) → IsFirstDesk limits d → lay.firsts ≡ stripes ++ d ∷ [] → lay.limits ≡ limits → lay.granules ≡ granules_of image
       → ((k : ℕ) → k < length stripes → get_or lay.sizes k 0 ≡ length (words_in (slot_at stripes k))) → IsLaidOut image limits lay
-  laid_out dealt firsts same granules sizes =
+  laid_out dealt d first firsts same granules sizes =
       let long = dealt.all_stripes in
-      let front : (k : ℕ) → k < 64 → first_of lay k ≡ slot_at stripes k = λ k l. ap (λ (z : List Slot). slot_at z k) firsts ∙ snoc_before stripes (first_desk limits) None k (omega arith) in
+      let front : (k : ℕ) → k < 64 → first_of lay k ≡ slot_at stripes k = λ k l. ap (λ (z : List Slot). slot_at z k) firsts ∙ snoc_before stripes d None k (omega arith) in
       record {
         same_limits = same;
         granules = granules;
-        objects = ap (λ (z : List Slot). length z) firsts ∙ omega (arith, length-append stripes (first_desk limits ∷ []));
+        objects = ap (λ (z : List Slot). length z) firsts ∙ omega (arith, length-append stripes (d ∷ []));
         sizes = λ k l. sizes k (omega arith) ∙ dealt.sizes k l;
         stripes = λ k l. subst (IsFirstStripe image limits k) (sym (front k l))
             (first_stripe image limits k (slot_at stripes k) (dealt.blank k l) (dealt.sizes k l)
             (λ g b e. subst (λ (j : ℕ). get_or (words_in (slot_at stripes j)) (place_in image g) 0 ≡ initial_word image g) e (dealt.words g b)));
-        desk = ap (λ (z : List Slot). slot_at z 64) firsts ∙ snoc_here stripes (first_desk limits) None 64 long;
+        desk = subst (IsFirstDesk limits) (sym (ap (λ (z : List Slot). slot_at z 64) firsts ∙ snoc_here stripes d None 64 long)) first;
       }
 
 -- the first values are sound
@@ -151,16 +155,16 @@ pub firsts_sound : (image : List ℕ) (limits : Limits) (lay : Layout) → IsLai
 firsts_sound image limits lay h k l =
     let objects = h.objects in
     dite (ℕ_discrete k 64)
-    (λ e. subst (IsSoundSlot lay k) (sym h.desk ∙ ap (first_of lay) (sym e)) (sound_desk limits lay k e h.same_limits))
+    (λ e. subst (IsSoundSlot lay k) (ap (first_of lay) (sym e)) (sound_desk limits lay k (first_of lay 64) e h.same_limits h.desk))
     (λ o. let below : k < 64 = omega arith in sound_stripe image limits lay k (first_of lay k) below h.same_limits (h.sizes k below) (h.stripes k below))
 
 -- a value stands at twice its number
 pub spread_at : (xs : List Slot) (k : ℕ) → k < length xs → get_elem? (spread xs) (slot_place k) ≡ some (slot_at xs k)
 spread_at [] k l = absurd (omega arith)
 spread_at (x ∷ xs) zero l = refl
-spread_at (x ∷ xs) (suc k) l = let e : slot_place (suc k) ≡ suc (suc (slot_place k)) = omega arith in ap (λ (z : ℕ). get_elem? (spread (x ∷ xs)) z) e ∙ spread_at xs k (omega arith)
+spread_at (x ∷ xs) (suc k) l = let e : slot_place (suc k) ≡ suc (suc (suc (suc (slot_place k)))) = omega arith in ap (λ (z : ℕ). get_elem? (spread (x ∷ xs)) z) e ∙ spread_at xs k (omega arith)
 
-pub spread_long : (xs : List Slot) → length (spread xs) ≡ 2 * length xs
+pub spread_long : (xs : List Slot) → length (spread xs) ≡ 4 * length xs
 spread_long [] = refl
 spread_long (x ∷ xs) = let h = spread_long xs in omega arith
 

@@ -45,7 +45,7 @@ module _ (id : ℕ) (v : View) (ws : List ℕ) (xs : List Slot) (stripes : List 
   abbrev ADeskThere : Type 0
   ADeskThere = (y : Slot) → get_elem? xs (slot_place 64) ≡ some y → desk ≡ desk_in (ends_as (get_or ws (word_place 64) 0) y)
 
-  closes_at : v.live ≡ true → v.number ≡ 0 → objects_of v.layout ≡ 65 → length xs ≡ 130 → Final (Seen (Kept v.layout) id v) ws xs → Stripes → ADeskThere
+  closes_at : v.live ≡ true → v.number ≡ 0 → objects_of v.layout ≡ 65 → length xs ≡ 260 → Final (Seen (Kept v.layout) id v) ws xs → Stripes → ADeskThere
       → ((c : ℕ) → c < cells_of v.layout → get_or words c 0 ≡ get_or ws (520 + c) 0) → EndsAs v stripes desk words
   closes_at live opening objects long final vs d cs =
       let s = final.0 in
@@ -78,7 +78,7 @@ module _ (id : ℕ) (v : View) (ws : List ℕ) (xs : List Slot) (stripes : List 
         words = λ c l. cs c l ∙ (ap (λ (z : ℕ). get_or ws (z + c) 0) (let e = objects in omega arith) ∙ (ap (λ (z : List ℕ). get_or z (8 * objects_of v.layout + c) 0) (sym same) ∙ r.stores c l));
       }
 
-  pub closes : (lay : Layout) → v.live ≡ true → v.number ≡ 0 → objects_of lay ≡ 65 → length xs ≡ 130 → Final (Seen (Kept lay) id v) ws xs → Stripes → ADeskThere
+  pub closes : (lay : Layout) → v.live ≡ true → v.number ≡ 0 → objects_of lay ≡ 65 → length xs ≡ 260 → Final (Seen (Kept lay) id v) ws xs → Stripes → ADeskThere
       → ((c : ℕ) → c < cells_of lay → get_or words c 0 ≡ get_or ws (520 + c) 0) → EndsAs v stripes desk words
   closes lay live opening objects long final vs d cs =
       let know = final.1.0.seats id v final.1.1 live in

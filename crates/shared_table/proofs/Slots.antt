@@ -19,8 +19,18 @@ emptied fs i old k l = dite (ℕ_discrete k i)
 pub still_filled : (fs : List Bool) (i high : ℕ) → Filled fs i high → Filled (set fs i false) (i + 1) high
 still_filled fs i high old k low below = get_or-set_other fs i k false false (λ e. omega arith) ∙ old k (omega arith) below
 
-pub emptied_two : (fs : List Bool) (i : ℕ) → AreEmpty fs (2 * i) → AreEmpty (set (set fs (2 * i) false) (2 * i + 1) false) (2 * i + 2)
-emptied_two fs i old k l = emptied (set fs (2 * i) false) (2 * i + 1) (emptied fs (2 * i) old) k (omega arith)
+abbrev two_out : List Bool → ℕ → List Bool
+two_out fs n = set (set fs n false) (n + 1) false
 
-pub filled_after_two : (fs : List Bool) (i high : ℕ) → Filled fs (2 * i) high → Filled (set (set fs (2 * i) false) (2 * i + 1) false) (2 * i + 2) high
-filled_after_two fs i high old k low below = still_filled (set fs (2 * i) false) (2 * i + 1) high (still_filled fs (2 * i) high old) k (omega arith) below
+emptied_two : (fs : List Bool) (n : ℕ) → AreEmpty fs n → AreEmpty (two_out fs n) (n + 2)
+emptied_two fs n old k l = emptied (set fs n false) (n + 1) (emptied fs n old) k (omega arith)
+
+filled_after_two : (fs : List Bool) (n high : ℕ) → Filled fs n high → Filled (two_out fs n) (n + 2) high
+filled_after_two fs n high old k low below = still_filled (set fs n false) (n + 1) high (still_filled fs n high old) k (omega arith) below
+
+pub emptied_four : (fs : List Bool) (n : ℕ) → AreEmpty fs n → AreEmpty (set (set (set (set fs n false) (n + 1) false) (n + 2) false) (n + 3) false) (n + 4)
+emptied_four fs n old k l = emptied (set (two_out fs n) (n + 2) false) (n + 3) (λ j m. emptied (two_out fs n) (n + 2) (emptied_two fs n old) j (omega arith)) k (omega arith)
+
+pub filled_after_four : (fs : List Bool) (n high : ℕ) → Filled fs n high → Filled (set (set (set (set fs n false) (n + 1) false) (n + 2) false) (n + 3) false) (n + 4) high
+filled_after_four fs n high old k low below =
+    still_filled (set (two_out fs n) (n + 2) false) (n + 3) high (λ j m under. still_filled (two_out fs n) (n + 2) high (filled_after_two fs n high old) j (omega arith) under) k (omega arith) below

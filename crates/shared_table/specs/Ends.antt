@@ -21,13 +21,13 @@ left_of st = left_by st.value st.by
 
 abbrev pub stripe_in : Slot → Option Stripe
 stripe_in None = None
-stripe_in (Some (AStripe s)) = Some s
+stripe_in (Some (AStripe s)) = Some s.value
 stripe_in (Some (ADesk d)) = None
 
 abbrev pub desk_in : Slot → Option DeskState
 desk_in None = None
 desk_in (Some (AStripe s)) = None
-desk_in (Some (ADesk d)) = Some d
+desk_in (Some (ADesk d)) = Some d.value
 
 -- There is a lawful past with the logs that the opening seat has. Each stripe and the desk is what the last turn of it left, and there is none exactly where a turn of it is open still. Each cell has the word of the last store.
 pub record EndsAs (v : View) (stripes : List (Option Stripe)) (desk : Option DeskState) (cells : List ℕ) : Type 0 where

@@ -44,13 +44,15 @@ abbrev pub IsFirstStripe : List ℕ → Limits → ℕ → Option Object → Typ
 IsFirstStripe image limits k None = ⊥
 IsFirstStripe image limits k (Some (Desk d)) = ⊥
 IsFirstStripe image limits k (Some (Stripe s)) =
-    (length s.words ≡ size_in image k)
-    × ((granule : ℕ) → granule < granules_of image → stripe_at image granule ≡ k → slice_index s.words (place_in image granule) ≡ initial_word image granule)
-    × (s.reserved ≡ []) × (s.sync.slots ≡ limits.slots) × (s.sync.objects ≡ []) × (s.last ≡ 0)
+    (length s.value.words ≡ size_in image k)
+    × ((granule : ℕ) → granule < granules_of image → stripe_at image granule ≡ k → slice_index s.value.words (place_in image granule) ≡ initial_word image granule)
+    × (s.value.reserved ≡ []) × (s.value.sync.slots ≡ limits.slots) × (s.value.sync.objects ≡ []) × (s.value.last ≡ 0)
 
 -- the desk as it begins
-abbrev pub first_desk : Limits → Option Object
-first_desk limits = Some (Desk (record { desk = new_desk limits; last = 0 }))
+abbrev pub IsFirstDesk : Limits → Option Object → Type 0
+IsFirstDesk limits None = ⊥
+IsFirstDesk limits (Some (Stripe s)) = ⊥
+IsFirstDesk limits (Some (Desk d)) = d.value ≡ record { desk = new_desk limits; last = 0 }
 
 -- a table of these limits over an image: 64 stripes and the desk, as they begin
 pub record IsLaidOut (image : List ℕ) (limits : Limits) (lay : Layout) : Type 0 where
@@ -59,7 +61,7 @@ pub record IsLaidOut (image : List ℕ) (limits : Limits) (lay : Layout) : Type 
   pub objects : objects_of lay ≡ 65
   pub sizes : (k : ℕ) → k < 64 → slice_index lay.sizes k ≡ size_in image k
   pub stripes : (k : ℕ) → k < 64 → IsFirstStripe image limits k (first_of lay k)
-  pub desk : first_of lay 64 ≡ first_desk limits
+  pub desk : IsFirstDesk limits (first_of lay 64)
 
 -- what contracts see of a table: which it is, its layout, and where the word of each granule stands in its stripe
 pub record SharedTable : Type 0 where

@@ -29,8 +29,8 @@ IsDeskOf limits d = (d.harts ≡ limits.harts) × (d.greatest ≡ limits.epochs)
 
 -- A stripe has a word for each granule of its number, and synchronisation objects for the slots of the run. The object 64 is a desk for the limits of the run.
 abbrev pub IsSound : Layout → ℕ → Object → Type 0
-IsSound lay k (Stripe s) = (k < 64) × (length s.words ≡ slice_index lay.sizes k) × (s.sync.slots ≡ lay.limits.slots)
-IsSound lay k (Desk d) = (k ≡ 64) × IsDeskOf lay.limits d.desk
+IsSound lay k (Stripe s) = (k < 64) × (length s.value.words ≡ slice_index lay.sizes k) × (s.value.sync.slots ≡ lay.limits.slots)
+IsSound lay k (Desk d) = (k ≡ 64) × IsDeskOf lay.limits d.value.desk
 
 abbrev pub IsSoundSlot : Layout → ℕ → Slot → Type 0
 IsSoundSlot lay k None = ⊥

@@ -37,12 +37,12 @@ pub record Knows (lay : Layout) (past : Past) (v : View) : Type 0 where
   pub logs : v.number ≡ 0 → v.logs ≡ logs_of past
   pub same_layout : v.layout ≡ lay
 
--- Words and values stand apart, so that threads at two objects don't share a line of the processor's cache: the word of object k is word 8 k, its value is in slot 2 k, and the cells come after the words of the objects.
+-- Words and values stand apart, so that threads at two objects don't share a line of the processor's cache: the word of object k is word 8 k, its value is in slot 4 k, and the cells come after the words of the objects.
 abbrev pub word_place : ℕ → ℕ
 word_place k = 8 * k
 
 abbrev pub slot_place : ℕ → ℕ
-slot_place k = 2 * k
+slot_place k = 4 * k
 
 abbrev pub cell_place : Layout → ℕ → ℕ
 cell_place lay c = 8 * objects_of lay + c

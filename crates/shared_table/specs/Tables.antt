@@ -10,5 +10,5 @@ pub record IsTable (id : TableId) (lay : Layout) (granules : ℕ) (places : List
   pub same_granules : lay.granules ≡ granules
   pub few : granules ≤ 532480
   pub words : id.words ≡ 520 + 4 * granules
-  pub slots : id.slots ≡ 130
+  pub slots : id.slots ≡ 260
   pub all_places : length places ≡ granules

@@ -18,20 +18,22 @@ fn value_if_even(word: u64, value: Slot) -> Slot
 
 fn discard(_value: Slot) {}
 
-// Takes the value of an object, and what the empty slot behind it has. The value counts where the
+// Takes the value of an object, and what the empty slots behind it have. The value counts where the
 // object's word is even.
 fn take_value(table: &mut Table<Slot, Global>, object: usize) -> Slot
-    requires size { (table.old.slots.len ≡ 130) × (520 ≤ table.old.words.len) × (object ≤ 64) }
-    requires slots { Filled table.old.slots.filled (2 * object) 130 }
+    requires size { (table.old.slots.len ≡ 260) × (520 ≤ table.old.words.len) × (object ≤ 64) }
+    requires slots { Filled table.old.slots.filled (4 * object) 260 }
     requires words { Filled table.old.words.filled 0 table.old.words.len }
     ensures value { (y : Place) → get_elem? (table.old.slots.items) (slot_place object) ≡ some y → result ≡ ends_as (slice_index (table.old.words.items) (word_place object)) y }
-    ensures rest { Filled table.new.slots.filled (2 * object + 2) 130 }
-    ensures gone { AreEmpty table.old.slots.filled (2 * object) → AreEmpty table.new.slots.filled (2 * object + 2) }
+    ensures rest { Filled table.new.slots.filled (4 * object + 4) 260 }
+    ensures gone { AreEmpty table.old.slots.filled (4 * object) → AreEmpty table.new.slots.filled (4 * object + 4) }
     ensures same { (table.new.words ≡ table.old.words) × (table.new.slots.items ≡ table.old.slots.items) × (table.new.slots.len ≡ table.old.slots.len) }
 {
     let word = table.word(8 * object);
-    let value = table.take(2 * object);
-    discard(table.take(2 * object + 1));
+    let value = table.take(4 * object);
+    discard(table.take(4 * object + 1));
+    discard(table.take(4 * object + 2));
+    discard(table.take(4 * object + 3));
     value_if_even(word, value)
 }
 
@@ -39,7 +41,7 @@ fn stripe_of(value: Slot) -> Option<Stripe>
     ensures { result ≡ stripe_in value }
 {
     match value {
-        Some(Object::Stripe(stripe)) => Some(stripe),
+        Some(Object::Stripe(stripe)) => Some(Box::into_inner(stripe)),
         _ => None,
     }
 }
@@ -48,7 +50,7 @@ fn desk_of(value: Slot) -> Option<DeskState>
     ensures { result ≡ desk_in value }
 {
     match value {
-        Some(Object::Desk(desk)) => Some(desk),
+        Some(Object::Desk(desk)) => Some(Box::into_inner(desk)),
         _ => None,
     }
 }
@@ -57,14 +59,14 @@ pub(crate) fn take_stripes(
     table: &mut Table<Slot, Global>,
     mut room: Vec<Option<Stripe>>,
 ) -> Vec<Option<Stripe>>
-    requires size { (table.old.slots.len ≡ 130) × (520 ≤ table.old.words.len) }
-    requires slots { Filled table.old.slots.filled 0 130 }
+    requires size { (table.old.slots.len ≡ 260) × (520 ≤ table.old.words.len) }
+    requires slots { Filled table.old.slots.filled 0 260 }
     requires words { Filled table.old.words.filled 0 table.old.words.len }
     requires room { (vec_len room ≡ 0) × (64 ≤ vec_capacity room) }
     ensures len { vec_len result ≡ 64 }
     ensures values { (k : ℕ) (y : Place) → k < 64 → get_elem? (table.old.slots.items) (slot_place k) ≡ some y → slice_index_or result.items k None ≡ stripe_in (ends_as (slice_index (table.old.words.items) (word_place k)) y) }
-    ensures rest { Filled table.new.slots.filled 128 130 }
-    ensures gone { AreEmpty table.new.slots.filled 128 }
+    ensures rest { Filled table.new.slots.filled 256 260 }
+    ensures gone { AreEmpty table.new.slots.filled 256 }
     ensures same { (table.new.words ≡ table.old.words) × (table.new.slots.items ≡ table.old.slots.items) × (table.new.slots.len ≡ table.old.slots.len) }
 {
     for stripe in 0..64 {
@@ -75,12 +77,12 @@ pub(crate) fn take_stripes(
 }
 
 pub(crate) fn take_desk(table: &mut Table<Slot, Global>) -> Option<DeskState>
-    requires size { (table.old.slots.len ≡ 130) × (520 ≤ table.old.words.len) }
-    requires slots { Filled table.old.slots.filled 128 130 }
+    requires size { (table.old.slots.len ≡ 260) × (520 ≤ table.old.words.len) }
+    requires slots { Filled table.old.slots.filled 256 260 }
     requires words { Filled table.old.words.filled 0 table.old.words.len }
-    requires gone { AreEmpty table.old.slots.filled 128 }
+    requires gone { AreEmpty table.old.slots.filled 256 }
     ensures value { (y : Place) → get_elem? (table.old.slots.items) (slot_place 64) ≡ some y → result ≡ desk_in (ends_as (slice_index (table.old.words.items) (word_place 64)) y) }
-    ensures gone { (table.new.slots.len ≡ 130) × AreEmpty table.new.slots.filled 130 }
+    ensures gone { (table.new.slots.len ≡ 260) × AreEmpty table.new.slots.filled 260 }
 {
     let value = take_value(table, 64);
     desk_of(value)

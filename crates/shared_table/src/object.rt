@@ -91,11 +91,12 @@ pub struct DeskState {
     pub last: u64,
 }
 
-/// What one lock keeps. Objects 0 to 63 are the stripes, and 64 is the desk.
+/// What one lock keeps. Objects 0 to 63 are the stripes, and 64 is the desk. Each is on the heap, so
+/// that a turn moves it at the cost of a pointer.
 #[derive(Drop)]
 pub enum Object {
-    Stripe(Stripe),
-    Desk(DeskState),
+    Stripe(Box<Stripe>),
+    Desk(Box<DeskState>),
 }
 
 /// The place of an object in the table. It is empty while a seat has the object out.

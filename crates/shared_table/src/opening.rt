@@ -3,8 +3,7 @@ ghost use Rattle.std.specs.Prelude.{◌≡◌, ℕ, ◌+◌, ◌^◌, ◌<◌, �
 ghost use Rattle.elf_image.specs.File.{granules_of};
 ghost use Rattle.slot_desk.specs.Steps.{AreDeskLimits};
 ghost use Rattle.run_record.specs.declared.limits.Limits.{Limits};
-ghost use Rattle.shared_table.specs.Layouts.{first_desk};
-ghost use Rattle.shared_table.specs.Opening.{words_in, IsBlank, AreBlank, AreDealt, spread};
+ghost use Rattle.shared_table.specs.Opening.{words_in, IsBlank, AreBlank, AreDealt, HasDesk, spread};
 
 use crate::object::{DeskState, GuestWords, Object, Slot, Stripe};
 use elf_image::Image;
@@ -26,12 +25,13 @@ fn blank_stripe(alloc: Global, limits: &Limits) -> Result<Slot, NoMemory>
     ensures blank { IfOk result (IsBlank limits.now) }
     ensures words { IfOk result (λ x. words_in x ≡ []) }
 {
-    Ok(Some(Object::Stripe(Stripe {
+    let stripe = Stripe {
         words: GuestWords::from_vec(Vec::new(alloc)),
         reserved: Reservations::new(alloc),
         sync: SyncSet::new(alloc, limits.slots)?,
         last: 0,
-    })))
+    };
+    Ok(Some(Object::Stripe(Box::new(alloc, stripe)?)))
 }
 
 // The 64 stripes with no words.
@@ -104,20 +104,23 @@ pub(crate) fn with_desk(
     mut objects: Vec<Slot>,
 ) -> Result<Vec<Slot>, NoMemory>
     requires { AreDeskLimits limits.now }
-    ensures { IfOk result (λ v. v.items ≡ objects.items ++ first_desk limits.now ∷ []) }
+    ensures { IfOk result (λ v. HasDesk limits.now objects.items v.items) }
 {
     let desk = Desk::new(alloc, limits)?;
-    objects.push(Some(Object::Desk(DeskState { desk, last: 0 })))?;
+    let state = Box::new(alloc, DeskState { desk, last: 0 })?;
+    objects.push(Some(Object::Desk(state)))?;
     Ok(objects)
 }
 
-/// The values with an empty slot after each.
+/// The values with three empty slots after each.
 pub(crate) fn spread_out(alloc: Global, objects: Vec<Slot>) -> Result<Vec<Slot>, NoMemory>
     ensures { IfOk result (λ v. v.items ≡ spread objects.items) }
 {
-    let mut slots = Vec::with_capacity(alloc, 130)?;
+    let mut slots = Vec::with_capacity(alloc, 260)?;
     for value in objects {
         slots.push(value)?;
+        slots.push(None)?;
+        slots.push(None)?;
         slots.push(None)?;
     }
     Ok(slots)

@@ -167,7 +167,7 @@ impl Shared {
         {
             return None;
         }
-        self.table.shared.exchange(seat, 2 * object as usize, None)
+        self.table.shared.exchange(seat, 4 * object as usize, None)
     }
 
     /// Gives the object back with this value.
@@ -182,7 +182,7 @@ impl Shared {
         match self
             .table
             .shared
-            .exchange(seat, 2 * object as usize, Some(value))
+            .exchange(seat, 4 * object as usize, Some(value))
         {
             None => {}
             Some(_) => unreachable!(),

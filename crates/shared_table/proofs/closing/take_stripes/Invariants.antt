@@ -11,8 +11,8 @@ invariant-loop-stripe l = record {
   words : l.table.words ≡ l.initial.table.words;
   items : l.table.slots.items ≡ l.initial.table.slots.items;
   count : l.table.slots.len ≡ l.initial.table.slots.len;
-  left : Filled (l.table.slots.filled) (2 * l.stripe) 130;
-  gone : AreEmpty (l.table.slots.filled) (2 * l.stripe);
+  left : Filled (l.table.slots.filled) (4 * l.stripe) 260;
+  gone : AreEmpty (l.table.slots.filled) (4 * l.stripe);
   len : vec_len l.room ≡ l.stripe;
   room : 64 ≤ vec_capacity l.room;
   values : (k : ℕ) (y : Slot) → k < l.stripe → get_elem? (l.initial.table.slots.items) (slot_place k) ≡ some y → get_or l.room.items k None ≡ stripe_in (ends_as (get_or (l.initial.table.words.items) (word_place k) 0) y);

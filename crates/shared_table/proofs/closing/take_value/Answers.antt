@@ -3,7 +3,7 @@ use mathlib.Core.Option.{some-injective}
 use Rattle.shared_table.specs.Past.{Slot}
 use Rattle.shared_table.specs.Ends.{ends_as, Filled, AreEmpty}
 use Rattle.shared_table.proofs.Rows.{at_get}
-use Rattle.shared_table.proofs.Slots.{emptied_two, filled_after_two}
+use Rattle.shared_table.proofs.Slots.{emptied_four, filled_after_four}
 use Rattle.shared_table.proofs.closing.take_value.Goals as goal
 
 pub returns-clause-value : goal.returns-clause-value
@@ -14,14 +14,18 @@ returns-clause-value c y at =
 
 pub returns-clause-rest : goal.returns-clause-rest
 returns-clause-rest c =
-    let i : ℕ = c.args.object in
+    let n : ℕ = 4 * c.args.object in
     let f1 = c.take-value.ensures.others.1 in
-    let f2 = c.take.ensures.others.1 in
-    subst (λ (fs : List Bool). Filled fs (2 * i + 2) 130) (sym (f2 ∙ ap (λ (fs : List Bool). set fs (2 * i + 1) false) f1)) (filled_after_two _ i 130 c.requires.slots)
+    let f2 = c.take.ensures.others.1 ∙ ap (λ (fs : List Bool). set fs (n + 1) false) f1 in
+    let f3 = c.take-2.ensures.others.1 ∙ ap (λ (fs : List Bool). set fs (n + 2) false) f2 in
+    let f4 = c.take-3.ensures.others.1 ∙ ap (λ (fs : List Bool). set fs (n + 3) false) f3 in
+    subst (λ (fs : List Bool). Filled fs (n + 4) 260) (sym f4) (filled_after_four _ n 260 c.requires.slots)
 
 pub returns-clause-gone : goal.returns-clause-gone
 returns-clause-gone c old =
-    let i : ℕ = c.args.object in
+    let n : ℕ = 4 * c.args.object in
     let f1 = c.take-value.ensures.others.1 in
-    let f2 = c.take.ensures.others.1 in
-    subst (λ (fs : List Bool). AreEmpty fs (2 * i + 2)) (sym (f2 ∙ ap (λ (fs : List Bool). set fs (2 * i + 1) false) f1)) (emptied_two _ i old)
+    let f2 = c.take.ensures.others.1 ∙ ap (λ (fs : List Bool). set fs (n + 1) false) f1 in
+    let f3 = c.take-2.ensures.others.1 ∙ ap (λ (fs : List Bool). set fs (n + 2) false) f2 in
+    let f4 = c.take-3.ensures.others.1 ∙ ap (λ (fs : List Bool). set fs (n + 3) false) f3 in
+    subst (λ (fs : List Bool). AreEmpty fs (n + 4)) (sym f4) (emptied_four _ n old)

@@ -20,7 +20,7 @@ returns-clause-ends c =
     let ws : List ℕ = closed.result.words.items in
     let taken = c.take_stripes-stripes.ensures in
     let desk = c.take_desk-desk in
-    let long : length xs ≡ 130 = search rules in
+    let long : length xs ≡ 260 = search rules in
     let granules = inv.same_granules in
     let got = closes c.args.seat.id v ws xs c.take_stripes-stripes.result.items desk.result c.copy_words-cells.result.items lay c.requires.own.live c.requires.opening inv.objects long closed.ensures.values.2
     (λ k y l e. taken.values k y l e)

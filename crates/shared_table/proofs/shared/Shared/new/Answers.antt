@@ -26,7 +26,7 @@ new-requires c =
     let sizes : (k : ℕ) → k < length stripes → get_or c.in_ok-sizes.sizes.items k 0 ≡ length (words_in (slot_at stripes k)) =
     subst (λ (z : List Slot). (k : ℕ) → k < length z → get_or c.in_ok-sizes.sizes.items k 0 ≡ length (words_in (slot_at z k))) c.as_slice.ensures.value c.in_ok-sizes.ensures in
     let firsts : lay.firsts ≡ c.in_ok-firsts.firsts.items = ap (λ v. v.items) c.of.ensures in
-    let laid : IsLaidOut image limits lay = laid_out image limits lay stripes c.in_ok-dealt.dealt.places.items c.in_ok-dealt.ensures (firsts ∙ c.in_ok-firsts.ensures) refl c.granules-granules.ensures
+    let laid : IsLaidOut image limits lay = laid_out image limits lay stripes c.in_ok-dealt.dealt.places.items c.in_ok-dealt.ensures c.in_ok-firsts.ensures.0 c.in_ok-firsts.ensures.1 (firsts ∙ c.in_ok-firsts.ensures.2) refl c.granules-granules.ensures
     (λ k l. ap (λ v. get_or v.items k 0) c.of-2.ensures ∙ sizes k l) in
     let count : ℕ = 520 + 4 * c.granules-granules.result in
     let ws : c.as_slice-2.result.now ≡ replicate count 0 = c.as_slice-2.ensures.value ∙ c.in_ok-words.ensures in
@@ -45,14 +45,14 @@ invariant_of-result c =
     let sizes : (k : ℕ) → k < length stripes → get_or c.in_ok-sizes.sizes.items k 0 ≡ length (words_in (slot_at stripes k)) =
     subst (λ (z : List Slot). (k : ℕ) → k < length z → get_or c.in_ok-sizes.sizes.items k 0 ≡ length (words_in (slot_at z k))) c.as_slice.ensures.value c.in_ok-sizes.ensures in
     let firsts : lay.firsts ≡ c.in_ok-firsts.firsts.items = ap (λ v. v.items) c.of.ensures in
-    let laid : IsLaidOut image limits lay = laid_out image limits lay stripes c.in_ok-dealt.dealt.places.items c.in_ok-dealt.ensures (firsts ∙ c.in_ok-firsts.ensures) refl c.granules-granules.ensures
+    let laid : IsLaidOut image limits lay = laid_out image limits lay stripes c.in_ok-dealt.dealt.places.items c.in_ok-dealt.ensures c.in_ok-firsts.ensures.0 c.in_ok-firsts.ensures.1 (firsts ∙ c.in_ok-firsts.ensures.2) refl c.granules-granules.ensures
     (λ k l. ap (λ v. get_or v.items k 0) c.of-2.ensures ∙ sizes k l) in
     let made = c.in-Ok.ensures.ok in
     let key : lay ≡ layout_of c.in-Ok.table.shared.key = ap layout_of (sym made.5) in
     let count : ℕ = 520 + 4 * c.granules-granules.result in
     let words : length c.as_slice-2.result.now ≡ count = ap (λ (l : List ℕ). length l) (c.as_slice-2.ensures.value ∙ c.in_ok-words.ensures) ∙ zeros_long count in
     let objects : objects_of lay ≡ 65 = laid.objects in
-    let slots : length c.in_ok-slots.slots.items ≡ 130 = ap (λ (l : List Slot). length l) (c.in_ok-slots.ensures ∙ ap spread (sym firsts)) ∙ (spread_long lay.firsts ∙ omega arith) in (
+    let slots : length c.in_ok-slots.slots.items ≡ 260 = ap (λ (l : List Slot). length l) (c.in_ok-slots.ensures ∙ ap spread (sym firsts)) ∙ (spread_long lay.firsts ∙ omega arith) in (
       record {
         objects = ap objects_of (sym key) ∙ objects;
         same_granules = ap (λ (l : Layout). l.granules) (sym key);
@@ -76,7 +76,7 @@ returns-in-Ok-clause-table c =
     let sizes : (k : ℕ) → k < length stripes → get_or c.in_ok-sizes.sizes.items k 0 ≡ length (words_in (slot_at stripes k)) =
     subst (λ (z : List Slot). (k : ℕ) → k < length z → get_or c.in_ok-sizes.sizes.items k 0 ≡ length (words_in (slot_at z k))) c.as_slice.ensures.value c.in_ok-sizes.ensures in
     let firsts : lay.firsts ≡ c.in_ok-firsts.firsts.items = ap (λ v. v.items) c.of.ensures in
-    let laid : IsLaidOut image limits lay = laid_out image limits lay stripes c.in_ok-dealt.dealt.places.items c.in_ok-dealt.ensures (firsts ∙ c.in_ok-firsts.ensures) refl c.granules-granules.ensures
+    let laid : IsLaidOut image limits lay = laid_out image limits lay stripes c.in_ok-dealt.dealt.places.items c.in_ok-dealt.ensures c.in_ok-firsts.ensures.0 c.in_ok-firsts.ensures.1 (firsts ∙ c.in_ok-firsts.ensures.2) refl c.granules-granules.ensures
     (λ k l. ap (λ v. get_or v.items k 0) c.of-2.ensures ∙ sizes k l) in
     let made = c.in-Ok.ensures.ok in
     let key : lay ≡ layout_of c.in-Ok.table.shared.key = ap layout_of (sym made.5) in
