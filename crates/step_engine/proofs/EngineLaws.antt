@@ -327,6 +327,7 @@ made_round file limits old mid d end next last_era reporter can given r t betwee
     let there : length (moments_in (old.round + 1) next.era (old.entries ++ t.part)) ≡ length (moments (old.entries ++ t.part)) + (next.era - last_era_of (old.entries ++ t.part)) = length_in (old.round + 1) next.era (old.entries ++ t.part) in
     record {
       part = t.part;
+      entries_are = refl;
       is_round = λ plan. makes_is_round file limits old mid d end plan t;
       after = λ plan. makes_after file limits old mid d end plan t last_era next.era l era_is;
       turn = refl;

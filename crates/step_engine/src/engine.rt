@@ -12,7 +12,7 @@ ghost use Rattle.report_text.specs.Offers.{is_met};
 ghost use Rattle.step_engine.specs.Rounds.{Told};
 ghost use Rattle.step_engine.specs.Run.{IsRun};
 
-use crate::turns::{due_turn, end_in, next_live};
+use crate::turns::{add_live, due_turn, end_in, keep_live, next_live};
 use elf_image::Image;
 use report_text::{Reporter, Suppressions};
 use run_record::{
@@ -63,8 +63,10 @@ impl Engine {
         })
     }
 
-    fn due(&self, limits: &Limits, plan: &[Turn]) -> Option<Due>
-        requires { self.now.turn ≤ length plan.now }
+    // The next round, where these threads live.
+    fn due(&self, limits: &Limits, plan: &[Turn], live: &[u32]) -> Option<Due>
+        requires turn { self.now.turn ≤ length plan.now }
+        requires live { live.now ≡ live_of self.now.watched.machine }
         ensures due { rounds.due_turn limits.now (live_of self.now.watched.machine) self.now.last self.now.remaining (rounds.from_live (lives self.now.watched.machine) (drop self.now.turn plan.now)) ≡ option_map due_of result }
         ensures can { IfSome result (CanRound self.now) }
         ensures turn { IfSome result (λ d. d.turn ≤ length plan.now) }
@@ -79,7 +81,7 @@ impl Engine {
                 turn: at + 1,
             });
         }
-        let tid = next_live(&self.watched.machine, self.last)?;
+        let tid = next_live(live, self.last)?;
         Some(Due {
             tid,
             given: limits.quantum.min(self.remaining),
@@ -164,17 +166,22 @@ impl Engine {
         ensures told { OnOk result (Told (is_met (S.rule_met suppressions.now)) image.now limits.now self.new.entries self.new.reporter) }
         ensures ends { IfOk result (rounds.Ends OneByOne limits.now (bare_of image.now limits.now.harts) (progress self.new plan.now)) }
     {
+        let mut live = Vec::new(alloc);
+        add_live(&self.watched.machine, &mut live, 0)?;
         'rounds: loop {
-            if let Some(end) = end_in(&self.watched.machine) {
+            if let Some(end) = end_in(&self.watched.machine, live.as_slice()) {
                 return Ok(end);
             }
-            let Some(due) = self.due(limits, plan) else {
+            let Some(due) = self.due(limits, plan, live.as_slice()) else {
                 return Ok(GuestEnd::Budget);
             };
             if due.given == 0 {
                 return Ok(GuestEnd::Budget);
             }
+            let made = self.watched.machine.threads();
             self.round(alloc, image, suppressions, due)?;
+            keep_live(&self.watched.machine, &mut live);
+            add_live(&self.watched.machine, &mut live, made)?;
         }
     }
 }

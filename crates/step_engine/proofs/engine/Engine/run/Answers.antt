@@ -3,6 +3,7 @@ use Rattle.run_record.specs.declared.limits.Limits.{Limits}
 use Rattle.report_text.specs.Offers.{is_met}
 use Rattle.step_engine.specs.Progress.{MakesRound}
 use Rattle.step_engine.specs.Rounds.{Told}
+use Rattle.step_engine.proofs.LiveLaws.{live_again, made_more}
 use Rattle.step_engine.proofs.RunLaws.{reached-more, ends-itself}
 use Rattle.step_engine.proofs.engine.Engine.run.Goals as goal
 
@@ -17,5 +18,11 @@ rounds-preserved g c =
       reached = reached-more _ _ _ _ c.rounds.invariant.ready _ _ c.rounds.invariant.reached (sym c.end_in.ensures ∙ c.in_default.is) (c.due.ensures.due ∙ rw c.in-Some-due.is refl) given c.in-Some-due.ensures.rest made;
       turn = rw made.turn c.in-Some-due.ensures.turn;
       ready = made.ready;
+      live = live_again _ _ _ _ _ c.rounds.invariant.ready made _ _ _ c.rounds.invariant.live c.threads-made.ensures.count (rw c.keep_live.ensures at c.in_ok-add_live-2.ensures);
       told = subst (λ (l : Limits). Told (is_met (g.S.Suppressions.rule_met c.args.suppressions.now)) c.args.image.now l c.round.new.self.entries c.round.new.self.reporter) c.rounds.invariant.ready.between.follows.stands.limits_are c.in_ok-round.ensures.told;
     }
+
+pub add_live-requires-in-rounds : goal.add_live-requires-in-rounds
+add_live-requires-in-rounds g c =
+    let made = subst (λ (l : Limits). MakesRound c.args.image.now l c.rounds.self c.round.new.self c.in-Some-due.due) c.rounds.invariant.ready.between.follows.stands.limits_are c.in_ok-round.ensures.made in
+    rw c.threads-made.ensures.count (made_more _ _ _ _ _ c.rounds.invariant.ready made)
