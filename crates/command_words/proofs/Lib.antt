@@ -3,4 +3,5 @@ mod NumberLaws
 mod PlanLaws
 mod RequestLaws
 mod EachOption
+mod Spellings
 pub mod OnLiterals

@@ -11,7 +11,8 @@ use Rattle.command_words.proofs.PlanLaws.{are_turns, no_turns}
 use Rattle.std.specs.Option.{option_map_or}
 use Rattle.command_words.specs.declared.request.Request.{Request}
 use Rattle.std.specs.Prelude.{unwrap_or}
-use Rattle.command_words.specs.Requests.{AreLimits, IsTask, run, step, generate, is_command, file_in, task_text, AreTurns, IsRefusal, RequestText, TaskText, task_with, request_of, request_text, Tells, fault_in, has_command, has_plan, has_right_file, ok_unless, plan_in, request_from, request_in, work_fault}
+use Rattle.command_words.specs.Requests.{AreLimits, AreTurns, IsTask, run, step, generate, is_command, file_in, task_text, RequestText, TaskText, task_with, request_of, request_text, Tells, fault_in, has_command, has_plan, has_right_file, ok_unless, plan_in, request_from, request_in}
+use Rattle.command_words.specs.Parts.{IsRefusal, work_fault}
 use Rattle.command_words.specs.declared.request.Refusal.{Refusal}
 use Rattle.command_words.specs.declared.request.UsageFault.{UsageFault}
 use Rattle.command_words.specs.declared.request.UsageFault.TheVariants as fault

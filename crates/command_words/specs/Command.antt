@@ -10,21 +10,24 @@ use Rattle.clap.specs.Faults.{fault_of}
 abbrev pub option_rule : Text → Rule
 option_rule name = record (new_rule name) { long = Some name }
 
+-- the command with one more option
 abbrev pub with_option : App → Text → App
 with_option app name = with_rule app (option_rule name)
 
+-- the names of all options
 abbrev pub option_names : List Text
 option_names = codes "harts" ∷ codes "slots" ∷ codes "epochs" ∷ codes "steps" ∷ codes "quantum" ∷ codes "parts"
     ∷ codes "part-words" ∷ codes "plan" ∷ codes "suppressions" ∷ codes "seed" ∷ codes "size" ∷ []
 
--- words without a program's name before them
+-- a command without arguments, whose words have no program's name before them
 abbrev pub bare_app : App
 bare_app = on_top (λ s. record s { no_binary_name = true }) (new_app (codes "tsanrun"))
 
+-- the first word that is no option, which must be there
 abbrev pub command_rule : Rule
 command_rule = record (new_rule (codes "command")) { required = true }
 
--- a command, perhaps a file, and the options
+-- the command that is read: a word for the command, perhaps one for a file, and the options
 unfoldable pub tool_app : App
 tool_app = fold with_option (with_rule (with_rule bare_app command_rule) (new_rule (codes "file"))) option_names
 
@@ -32,7 +35,7 @@ tool_app = fold with_option (with_rule (with_rule bare_app command_rule) (new_ru
 abbrev pub rows_read : ArgMatches → List Row
 rows_read m = rows_of (found_of m)
 
--- `clap` takes the words
+-- `clap` takes the words: it finds no fault in them
 unfoldable pub is_taken : List Text → Bool
 is_taken words = is_empty (fault_of tool_app words)
 

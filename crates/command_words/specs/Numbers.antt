@@ -27,33 +27,43 @@ pub record NumberOption : Type 0 where
   pub most : ℕ
   pub default : ℕ
 
+-- how many threads may live at once
 abbrev pub harts : NumberOption
 harts = record { name = codes "harts"; least = 1; most = 64; default = 4 }
 
+-- how many slots there are
 abbrev pub slots : NumberOption
 slots = record { name = codes "slots"; least = 1; most = 255; default = 255 }
 
+-- the greatest epoch of a slot
 abbrev pub epochs : NumberOption
 epochs = record { name = codes "epochs"; least = 2; most = 16383; default = 16383 }
 
+-- how many instructions all threads together may make
 abbrev pub steps : NumberOption
 steps = record { name = codes "steps"; least = 1; most = 8000000; default = 1000000 }
 
+-- the instructions of a thread in one round
 abbrev pub quantum : NumberOption
 quantum = record { name = codes "quantum"; least = 1; most = 10000; default = 1000 }
 
+-- how many parts of a thread's trace are held
 abbrev pub parts : NumberOption
 parts = record { name = codes "parts"; least = 2; most = 64; default = 8 }
 
+-- the words of one part
 abbrev pub part_words : NumberOption
 part_words = record { name = codes "part-words"; least = 64; most = 4096; default = 512 }
 
+-- what the random numbers of a made program begin with
 abbrev pub seed : NumberOption
 seed = record { name = codes "seed"; least = 0; most = 4294967295; default = 1 }
 
+-- the operations of each thread of a made program
 abbrev pub size : NumberOption
 size = record { name = codes "size"; least = 0; most = 10000; default = 1000 }
 
+-- all options that take a number
 abbrev pub number_options : List NumberOption
 number_options = harts ∷ slots ∷ epochs ∷ steps ∷ quantum ∷ parts ∷ part_words ∷ seed ∷ size ∷ []
 
@@ -69,10 +79,11 @@ number_in rows option = option_map_or (number_of 10 option.least option.most) (g
 unfoldable pub has_numbers : List Row → Bool
 has_numbers rows = list_all (λ option. is_some (number_in rows option)) number_options
 
--- the option's number
+-- the option's number, where it has one
 abbrev pub number : List Row → NumberOption → ℕ
 number rows option = unwrap_or (number_in rows option) 0
 
+-- the limits that the words give, by the defaults where they give none
 unfoldable pub limits_in : List Row → Limits
 limits_in rows = record {
   harts = number rows harts;

@@ -5,12 +5,15 @@ use Rattle.clap.specs.Walk.{Text}
 use Rattle.run_record.specs.declared.plan.Turn.{Turn}
 use Rattle.command_words.specs.Numbers.{number_of}
 
+-- the byte is `:`
 abbrev pub is_colon : ℕ → Bool
 is_colon byte = byte == 58
 
+-- the byte is `,`
 abbrev pub is_comma : ℕ → Bool
 is_comma byte = byte == 44
 
+-- a turn of a thread and a number of instructions, where both are there
 abbrev pub turn_from : Option ℕ → Option ℕ → Option Turn
 turn_from (Some tid) (Some steps) = Some (record { tid = tid; steps = steps })
 turn_from _ _ = None

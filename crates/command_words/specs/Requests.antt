@@ -1,5 +1,5 @@
 -- What the words of the command line ask for, or why they are refused.
-use Rattle.std.specs.Prelude.{ℕ, ◌≡◌, ◌≤◌, ◌⊎◌, ◌||◌, Bool, true, false, not, List, [], Option, Some, None, Result, Ok, Err, All, codes, is_some, length, nat_lt, unwrap_or, option_map, if◌then◌else◌}
+use Rattle.std.specs.Prelude.{ℕ, ◌≡◌, ◌≤◌, ◌||◌, Bool, true, false, not, List, [], Option, Some, None, Result, Ok, Err, All, codes, is_some, length, nat_lt, unwrap_or, option_map, if◌then◌else◌}
 use Rattle.std.specs.Option.{option_map_or}
 use Rattle.std.specs.Str.{bytes_eq}
 use Rattle.clap.specs.Walk.{Row, Text}
@@ -13,8 +13,6 @@ use Rattle.command_words.specs.declared.request.Refusal.TheVariants.{Usage, NoMe
 use Rattle.command_words.specs.declared.request.Request.{Request}
 use Rattle.command_words.specs.declared.request.Task.{Task}
 use Rattle.command_words.specs.declared.request.Task.TheVariants as task
-use Rattle.command_words.specs.declared.reader.Work.{Work}
-use Rattle.command_words.specs.declared.reader.Work.TheVariants as work
 use Rattle.command_words.specs.declared.request.UsageFault.{UsageFault}
 use Rattle.command_words.specs.declared.request.UsageFault.TheVariants as fault
 
@@ -31,16 +29,13 @@ pub record RequestText : Type 0 where
   pub plan : List Turn
   pub suppressions : Option Text
 
+-- a task with its file's name as text
 abbrev pub task_text : Task → TaskText
 task_text (task.Run file) = run file.now
 task_text (task.Step file) = step file.now
 task_text (task.Generate s z) = generate s z
 
-abbrev pub work_task : Work → ℕ → ℕ → TaskText
-work_task (work.Run file) _ _ = run file.now
-work_task (work.Step file) _ _ = step file.now
-work_task work.Generate s z = generate s z
-
+-- a request of the code with its names as texts
 abbrev pub request_text : Request → RequestText
 request_text request = record {
   task = task_text request.task;
@@ -61,17 +56,13 @@ runs_file rows = is_command rows (codes "run") || is_command rows (codes "step")
 abbrev pub has_command : List Row → Bool
 has_command rows = runs_file rows || is_command rows (codes "gen")
 
+-- the file's name, if there is one
 abbrev pub file_in : List Row → Option Text
 file_in rows = given rows (codes "file")
 
 -- there is a file exactly where the command runs one
 abbrev pub has_right_file : List Row → Bool
 has_right_file rows = if runs_file rows then is_some (file_in rows) else not (is_some (file_in rows))
-
--- the first fault of the command and its file
-unfoldable pub work_fault : List Row → Option UsageFault
-work_fault rows = if not (has_command rows) then Some fault.Command
-    else (if not (has_right_file rows) then Some fault.File else None)
 
 -- there is no plan, or its text is one
 unfoldable pub has_plan : List Row → Bool
@@ -97,11 +88,7 @@ task_with rows s z = if is_command rows (codes "run") then run (unwrap_or (file_
     else (if is_command rows (codes "step") then step (unwrap_or (file_in rows) [])
     else generate s z)
 
--- the work is what the command does with its file, or they have this first fault
-abbrev pub Works : List Row → Result Work UsageFault → Type 0
-Works rows (Ok w) = (work_fault rows ≡ None) × ((s z : ℕ) → work_task w s z ≡ task_with rows s z)
-Works rows (Err f) = work_fault rows ≡ Some f
-
+-- what is asked for, where there is no fault
 abbrev pub request_in : List Row → RequestText
 request_in rows = record {
   task = task_with rows (number rows seed) (number rows size);
@@ -110,6 +97,7 @@ request_in rows = record {
   suppressions = given rows (codes "suppressions");
 }
 
+-- the value, unless there is a fault
 abbrev pub ok_unless : {A E : Type 0} → Option E → A → Result A E
 ok_unless None value = Ok value
 ok_unless (Some e) value = Err e
@@ -127,10 +115,6 @@ abbrev pub Tells : Result RequestText UsageFault → Result Request Refusal → 
 Tells wanted (Ok request) = wanted ≡ Ok (request_text request)
 Tells wanted (Err (Usage f)) = wanted ≡ Err f
 Tells wanted (Err NoMemory) = Unit {0}
-
--- memory ran out, or the test fails, which is this fault
-abbrev pub IsRefusal : UsageFault → Bool → Refusal → Type 0
-IsRefusal f test refusal = (refusal ≡ NoMemory) ⊎ ((refusal ≡ Usage f) × (test ≡ false))
 
 -- an executable that is made has threads of at most 10,000 operations
 abbrev pub IsTask : TaskText → Type 0

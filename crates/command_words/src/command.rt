@@ -2,12 +2,10 @@
 ghost use Rattle.std.specs.Prelude.{◌≡◌, true, IfOk, IfErr, fold, map, string_bytes};
 ghost use Rattle.std.specs.Option.{option_map};
 ghost use Rattle.clap.specs.Words.{app_of};
-ghost use Rattle.clap.specs.Simple.{with_rule};
-ghost use Rattle.clap.specs.Walk.{first_of};
 ghost use Rattle.command_words.specs.Command.{bare_app, rows_read, tool_app, is_taken};
 ghost use Rattle.command_words.specs.Command as grammar;
 ghost use Rattle.command_words.specs.Numbers.{given};
-ghost use Rattle.command_words.specs.Requests.{IsRefusal};
+ghost use Rattle.command_words.specs.Parts.{IsRefusal};
 
 use crate::{Refusal, UsageFault};
 use clap::error::ErrorKind;
@@ -40,6 +38,7 @@ fn with_option<'a>(
     command.arg(option)
 }
 
+/// The command with these options more.
 fn with_options<'a>(
     alloc: Global,
     command: Command<'a>,
@@ -54,12 +53,14 @@ fn with_options<'a>(
     Ok(command)
 }
 
+/// A command without arguments, whose words have no program's name before them.
 fn bare_command<'a>(alloc: Global) -> Command<'a>
     ensures { app_of result ≡ bare_app }
 {
     Command::new(alloc, "tsanrun").no_binary_name(true)
 }
 
+/// The command that is read: a word for the command, perhaps one for a file, and the options.
 fn tool_command<'a>(alloc: Global) -> Result<Command<'a>, AllocError>
     ensures { IfOk result (λ c. app_of c ≡ tool_app) }
 {
@@ -69,7 +70,7 @@ fn tool_command<'a>(alloc: Global) -> Result<Command<'a>, AllocError>
     with_options(alloc, tool, OPTIONS.as_slice())
 }
 
-/// What `clap` reads in the words.
+/// What `clap` reads in the words, where it takes them.
 pub fn parse<'a>(alloc: Global, words: &'a [String]) -> Result<ArgMatches<'a>, Refusal>
     ensures ok { IfOk result (λ m. (is_taken (map string_bytes words.entry.now) ≡ true)
         × (rows_read m ≡ grammar.matches (map string_bytes words.entry.now))) }

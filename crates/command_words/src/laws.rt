@@ -1,6 +1,6 @@
 //! What the definition of a request makes of some words. No function here has a body: each
 //! contract is a law.
-ghost use Rattle.std.specs.Prelude.{◌≡◌, [], ◌∷◌, ◌++◌, All, List, ℕ, None, Some, codes};
+ghost use Rattle.std.specs.Prelude.{◌≡◌, ◌≢◌, [], ◌∷◌, ◌++◌, All, List, ℕ, None, Some, codes};
 ghost use Rattle.command_words.specs.Command.{option_names};
 ghost use Rattle.command_words.specs.Numbers.{default_limits};
 ghost use Rattle.command_words.specs.Requests.{generate, request_of, step};
@@ -24,10 +24,11 @@ pub fn no_option_twice()
         ∷ codes "gen" ∷ (codes "--" ++ name ++ codes "=" ++ other) ∷ []) ≡ Err UsageFault.Words) option_names }
 {}
 
-/// `--name=TEXT` and `--name TEXT` are the same, of each option, at a text of digits.
+/// `--name=TEXT` and `--name TEXT` are the same, where the text has a first byte other than `-`.
 pub fn two_spellings()
-    ensures { All (λ name. request_of (codes "gen" ∷ (codes "--" ++ name ++ codes "=100") ∷ [])
-        ≡ request_of (codes "gen" ∷ (codes "--" ++ name) ∷ codes "100" ∷ [])) option_names }
+    ensures { All (λ name. (first : ℕ) (rest : List ℕ) → first ≢ 45
+        → request_of (codes "gen" ∷ (codes "--" ++ name ++ codes "=" ++ (first ∷ rest)) ∷ [])
+        ≡ request_of (codes "gen" ∷ (codes "--" ++ name) ∷ (first ∷ rest) ∷ [])) option_names }
 {}
 
 /// Behind `=` stands any text, and behind `--` any file.

@@ -2,7 +2,7 @@
 ghost use Rattle.std.specs.Prelude.{◌≡◌, true, IfOk, IfErr, map};
 ghost use Rattle.command_words.specs.Plans as spec;
 ghost use Rattle.command_words.specs.Plans.{is_plan, turns_of};
-ghost use Rattle.command_words.specs.Requests.{IsRefusal};
+ghost use Rattle.command_words.specs.Parts.{IsRefusal};
 
 use crate::numbers::number_of;
 use crate::{Refusal, UsageFault};
@@ -22,6 +22,7 @@ fn turn_of(text: &str) -> Option<Turn>
     Some(Turn { tid, steps })
 }
 
+/// The parts of a text between commas.
 fn pieces_of<'a>(alloc: Global, text: &'a str) -> Result<Vec<&'a str>, AllocError>
     ensures { IfOk result (λ pieces. map (λ piece. piece.now) pieces.items ≡ spec.pieces_of text.entry.now) }
 {

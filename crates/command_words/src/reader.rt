@@ -1,8 +1,9 @@
 // From the words of the command line to a request.
-ghost use Rattle.std.specs.Prelude.{◌≡◌, ℕ, true, None, Some, IfOk, IfErr, map, string_bytes};
+ghost use Rattle.std.specs.Prelude.{◌≡◌, true, None, Some, IfOk, IfErr, map, string_bytes};
 ghost use Rattle.command_words.specs.Command.{rows_read};
 ghost use Rattle.command_words.specs.Requests as spec;
-ghost use Rattle.command_words.specs.Requests.{AreLimits, AreTurns, IsRefusal, IsTask, Tells, has_plan, request_from, request_of, task_text, task_with, work_fault, work_task};
+ghost use Rattle.command_words.specs.Requests.{AreLimits, AreTurns, IsTask, Tells, has_plan, request_from, request_of, task_text};
+ghost use Rattle.command_words.specs.Parts.{IsRefusal, Works, work_task};
 
 use crate::command::{parse, text_given};
 use crate::numbers::numbers_in;
@@ -20,6 +21,7 @@ enum Work<'a> {
     Generate,
 }
 
+/// Whether the command is the one of this name.
 fn is_command(matches: &ArgMatches, name: &str) -> bool
     ensures { result ≡ spec.is_command (rows_read matches.now) name.now }
 {
@@ -30,10 +32,10 @@ fn is_command(matches: &ArgMatches, name: &str) -> bool
 }
 
 /// What the command does with a file.
-#[tactic(auto, unfolding(crate::specs::Requests::work_fault, crate::specs::Requests::task_with))]
+#[tactic(auto, unfolding(crate::specs::Parts::work_fault, crate::specs::Requests::task_with))]
 fn work_on<'a>(matches: &ArgMatches<'a>, file: &'a str) -> Result<Work<'a>, UsageFault>
     requires { spec.file_in (rows_read matches.now) ≡ Some file.now }
-    ensures { spec.Works (rows_read matches.now) result }
+    ensures { Works (rows_read matches.now) result }
 {
     if is_command(matches, "run") {
         return Ok(Work::Run(file));
@@ -48,10 +50,10 @@ fn work_on<'a>(matches: &ArgMatches<'a>, file: &'a str) -> Result<Work<'a>, Usag
 }
 
 /// What the command does without a file.
-#[tactic(auto, unfolding(crate::specs::Requests::work_fault, crate::specs::Requests::task_with))]
+#[tactic(auto, unfolding(crate::specs::Parts::work_fault, crate::specs::Requests::task_with))]
 fn work_without_file<'a>(matches: &ArgMatches<'a>) -> Result<Work<'a>, UsageFault>
     requires { spec.file_in (rows_read matches.now) ≡ None }
-    ensures { spec.Works (rows_read matches.now) result }
+    ensures { Works (rows_read matches.now) result }
 {
     if is_command(matches, "run") || is_command(matches, "step") {
         return Err(UsageFault::File);
@@ -64,7 +66,7 @@ fn work_without_file<'a>(matches: &ArgMatches<'a>) -> Result<Work<'a>, UsageFaul
 
 /// What the command does with its file.
 fn work_in<'a>(matches: &ArgMatches<'a>) -> Result<Work<'a>, UsageFault>
-    ensures { spec.Works (rows_read matches.now) result }
+    ensures { Works (rows_read matches.now) result }
 {
     match text_given(matches, "file") {
         Some(file) => work_on(matches, file),
@@ -72,6 +74,7 @@ fn work_in<'a>(matches: &ArgMatches<'a>) -> Result<Work<'a>, UsageFault>
     }
 }
 
+/// The task of some work with these numbers.
 fn task_of<'a>(work: Work<'a>, seed: u32, size: u32) -> Task<'a>
     ensures { task_text result ≡ work_task work.entry seed size }
 {
@@ -120,10 +123,9 @@ fn request_in<'a>(alloc: Global, matches: &ArgMatches<'a>) -> Result<Request<'a>
     })
 }
 
-/// Reads the words of a command line, without the program's name before them.
-///
-/// They ask for what the definition says, or have the fault that it says; where memory runs out
-/// the answer is `NoMemory`.
+/// Reads the words of a command line, without the program's name before them: a command `run FILE`,
+/// `step FILE` or `gen`, and options `--name TEXT` or `--name=TEXT` in any order, each at most once;
+/// behind `--` stand no options. `NoMemory` comes only where memory runs out.
 pub fn read_words<'a>(alloc: Global, words: &'a [String]) -> Result<Request<'a>, Refusal>
     ensures told { Tells (request_of (map string_bytes words.entry.now)) result }
     ensures limits { IfOk result (λ request. AreLimits request.limits) }

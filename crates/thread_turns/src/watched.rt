@@ -1,5 +1,5 @@
 // A machine and the detector that watches it.
-ghost use Rattle.std.specs.Prelude.{◌≡◌, ◌<◌, ◌≤◌, ◌+◌, ◌*◌, ◌^◌, true, [], length, IfOk};
+ghost use Rattle.std.specs.Prelude.{◌≡◌, ◌<◌, ◌≤◌, ◌+◌, ◌*◌, ◌^◌, true, [], length, IfOk, OnErr};
 ghost use Rattle.bare_machine.specs.World.{lives};
 ghost use Rattle.turn_laws.specs.Turns.{GoesOn};
 ghost use Rattle.machine_laws.specs.Machine.{bare_of};
@@ -47,7 +47,8 @@ impl WatchedMachine {
     }
 
     /// The thread makes at most so many instructions in that round, up to one that uses an object. The
-    /// entries of the turn are appended.
+    /// entries of the turn are appended. After an error none of them is, and machine and detector are of no
+    /// more use.
     pub fn take_turn(
         &mut self,
         alloc: Global,
@@ -62,7 +63,8 @@ impl WatchedMachine {
         requires following { IsFollowing image.now round entries.old self.old }
         requires goes_on { GoesOn (bare_of image.now self.old.detector.limits.harts) entries.old tid round }
         requires room { length (moments_by round entries.old self.old) + 8 * most < 2 ^ 32 }
-        ensures { IfOk result (TakesTurn image.now round tid most entries.old entries.new self.old self.new) }
+        ensures turn { IfOk result (TakesTurn image.now round tid most entries.old entries.new self.old self.new) }
+        ensures err { OnErr result (entries.new ≡ entries.old) }
     {
         self.detector.resume(tid);
         let era = self.detector.era();

@@ -1,7 +1,7 @@
 use Rattle.std.proofs.Common.{◌∙◌, sym, subst, Bool}
 use Rattle.std.proofs.lemmas.Result.{IfErr-weaker, IfOk-weaker}
 use Rattle.command_words.specs.Command.{rows_read}
-use Rattle.command_words.specs.Requests.{IsRefusal}
+use Rattle.command_words.specs.Parts.{IsRefusal}
 use Rattle.command_words.specs.declared.request.UsageFault.TheVariants as fault
 use Rattle.command_words.proofs.RequestLaws.{no_plan_given, plan_given}
 use Rattle.command_words.proofs.reader.plan_in.Goals as goal

@@ -22,14 +22,14 @@ leave-requires-clause-greatest c = (may_leave _ _ _ _ _ _ _ _ _ (record { alive 
 pub push_turn-requires : goal.push_turn-requires
 push_turn-requires c = few_before _ _ _ _ _ _ (record { alive = c.requires.lives; following = c.requires.following; goes_on = c.requires.goes_on; room = c.requires.room })
 
-pub returns-in_ok-push_turn : goal.returns-in_ok-push_turn
-returns-in_ok-push_turn c =
+pub returns-in_ok-push_turn-clause-turn : goal.returns-in_ok-push_turn-clause-turn
+returns-in_ok-push_turn-clause-turn c =
     takes _ _ _ _ _ _ _ _ _ _ _ _ (record { alive = c.requires.lives; following = c.requires.following; goes_on = c.requires.goes_on; room = c.requires.room }) (runs_of _ _ _ _ _ _ _ _ _ c.new-part.ensures c.resume.ensures c.in_ok-starved.ensures) c.if-steps-gt0.true
     (elim c.if-is_some.branch [
       | then-is_some w ↦ new_some _ _ _ _ _ (sym c.is_some.ensures ∙ w.if-is_some.true) w.self-is w.leave.ensures
       | else-is_some w ↦ new_none _ _ _ _ (sym c.is_some.ensures ∙ w.if-is_some.false) w.self-is
     ])
-    (c.era-era.ensures ∙ ap (λ (d : Detected). d.era) c.resume.ensures) c.in_ok-push_turn.ensures
+    (c.era-era.ensures ∙ ap (λ (d : Detected). d.era) c.resume.ensures) c.in_ok-push_turn.ensures.ok
 
-pub returns-else-steps-gt0 : goal.returns-else-steps-gt0
-returns-else-steps-gt0 c = takes_none _ _ _ _ _ _ _ _ _ (record { alive = c.requires.lives; following = c.requires.following; goes_on = c.requires.goes_on; room = c.requires.room }) (runs_of _ _ _ _ _ _ _ _ _ c.new-part.ensures c.resume.ensures c.in_ok-starved.ensures) (let z = c.if-steps-gt0.false in omega arith)
+pub returns-else-steps-gt0-clause-turn : goal.returns-else-steps-gt0-clause-turn
+returns-else-steps-gt0-clause-turn c = takes_none _ _ _ _ _ _ _ _ _ (record { alive = c.requires.lives; following = c.requires.following; goes_on = c.requires.goes_on; room = c.requires.room }) (runs_of _ _ _ _ _ _ _ _ _ c.new-part.ensures c.resume.ensures c.in_ok-starved.ensures) (let z = c.if-steps-gt0.false in omega arith)

@@ -1,0 +1,3 @@
+pub mod Joint
+pub mod Along
+pub mod Rounds

@@ -1,0 +1,10 @@
+pub mod Choices
+pub mod Owned
+pub mod Spots
+pub mod Keeping
+pub mod Ending
+pub mod Taking
+pub mod Fresh
+pub mod Events
+pub mod Along
+pub mod Attaching

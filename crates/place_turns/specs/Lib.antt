@@ -1,0 +1,4 @@
+pub mod Places
+pub mod Requests
+pub mod Turns
+pub mod Wholes
