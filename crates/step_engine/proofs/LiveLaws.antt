@@ -146,9 +146,9 @@ live-later harts w v g =
     let m = length v.threads in
     let more : n ≤ m = g.more in
     let all : up_from 0 m ≡ up_from 0 n ++ up_from n (m - n) =
-        let e : m ≡ n + (m - n) = omega arith in
-        let z : 0 + n ≡ n = omega arith in
-        ap (up_from 0) e ∙ up_from-split 0 n (m - n) ∙ ap (λ (j : ℕ). up_from 0 n ++ up_from j (m - n)) z in
+    let e : m ≡ n + (m - n) = omega arith in
+    let z : 0 + n ≡ n = omega arith in
+    ap (up_from 0) e ∙ up_from-split 0 n (m - n) ∙ ap (λ (j : ℕ). up_from 0 n ++ up_from j (m - n)) z in
     let twice : filter (lives v) (live_of w) ≡ filter (lives v) (up_from 0 n) = filtered_twice (lives v) (lives w) 0 n (λ u l. g.ended u (omega arith)) in
     sym (ap (filter (lives v)) all ∙ filter-append (lives v) (up_from 0 n) (up_from n (m - n)) ∙ ap (λ (ys : List ℕ). ys ++ filter (lives v) (up_from n (m - n))) (sym twice))
 
