@@ -25,6 +25,7 @@ use Rattle.place_turns.proofs.Calls.{state_along, told_along, may_along}
 use Rattle.place_clocks.specs.Places as clocks
 use Rattle.place_clocks.specs.Turns as events
 use Rattle.place_clocks.specs.Holds.{HasClocks, StandFrom, whole_at}
+use Rattle.place_clocks.specs.Holds as holds
 use Rattle.place_clocks.proofs.Along.{turns_hold}
 use Rattle.joint_turns.specs.Joint.{Local, Value, Turned, Act, attaches, steps, begins, leaves, attach_turn, joint_turn, IsPlaced, bare_of, clocks_of}
 use Rattle.joint_turns.specs.Along.{IsJoint, Tells, world_after, whole_of}
@@ -106,6 +107,10 @@ module _ (file : List ℕ) (harts g slots : ℕ) (ok : image_of file ≡ Ok file
     clocks_is : clocks_of (left_by m t k (turned k steps)) ≡ after (events.clock_turn g) (clocks_of m) (singles t k acts)
     clocks_is = clocks_left m t k (turned k steps) ∙ many_next (events.clock_turn g) (clocks_of m) t k acts
 
+    -- the events may be made one after another
+    pub steps_may : holds.AllMay g (clocks_of m) (singles t k acts)
+    steps_may = all_may g t k made (object_of (request file t p.thread)) arrived (here_by (cases_Bool (arrived t))) p.place (λ q. fresh_by q (cases_Bool (arrived made))) (clocks_of m) (λ u. refl) b.told suits
+
     steps_come : Comes k steps (turned k steps)
     steps_come = record {
       joint = λ stand. record {
@@ -114,8 +119,7 @@ module _ (file : List ℕ) (harts g slots : ℕ) (ok : image_of file ≡ Ok file
             (subst (IsStateOf file harts (record { world = (step file w t).world; arrived = arrived })) (sym (bare_left m t k (turned k steps))) bare_is);
         clocks = subst (HasClocks (whole_at g slots h (n + length (map (Does t) b.told)))) (sym clocks_is)
             (subst (λ (items : List Item). HasClocks (whole_at g slots h (n + length items)) (after (events.clock_turn g) (clocks_of m) (singles t k acts))) (told_events g t k (clocks_of m) b.told)
-            (turns_hold g slots h n (clocks_of m) (singles t k acts) j.clocks
-            (all_may g t k made (object_of (request file t p.thread)) arrived (here_by (cases_Bool (arrived t))) p.place (λ q. fresh_by q (cases_Bool (arrived made))) (clocks_of m) (λ u. refl) b.told suits)
+            (turns_hold g slots h n (clocks_of m) (singles t k acts) j.clocks steps_may
             (subst (StandFrom h n) (sym (told_events g t k (clocks_of m) b.told)) stand)));
       };
       told = ap (map (Does t)) told_is;

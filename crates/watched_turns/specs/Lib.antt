@@ -1,0 +1,5 @@
+pub mod Watch
+pub mod Checking
+pub mod Turns
+pub mod Along
+pub mod Rounds
