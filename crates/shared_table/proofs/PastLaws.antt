@@ -1,10 +1,10 @@
 -- What a lawful past says of logs, turns and cells.
-use Rattle.std.proofs.Common.{◌≡◌, ◌≢◌, ℕ, zero, suc, ◌+◌, ◌*◌, ◌%◌, ◌<◌, get_or, Bool, true, false, List, [], ◌∷◌, ◌++◌, length, Option, None, Some, refl, sym, ap, ◌∙◌, subst, ⊎_elim, arith, length-append, length-set, append-nil}
+use Rattle.std.proofs.Common.{cond, eq-eqb, ne_eqb, ◌≡◌, ◌≢◌, ℕ, zero, suc, ◌+◌, ◌*◌, ◌%◌, ◌<◌, get_or, Bool, true, false, List, [], ◌∷◌, ◌++◌, length, Option, None, Some, refl, sym, ap, ◌∙◌, subst, ⊎_elim, arith, length-append, length-set, append-nil}
 use mathlib.Core.Logic.{dite}
 use mathlib.Core.Option.{some, some-injective, some-ne-none}
 use native.Mathlib.Decide.{ℕ_discrete}
 use lib.ListN.{get_elem?}
-use Rattle.atomic_table.proofs.Lists.{at_set, set_else, at_longer, at_snoc}
+use Rattle.atomic_table.proofs.Lists.{at_set, set_here, set_else, at_longer, at_snoc}
 use Rattle.shared_table.specs.declared.view.Layout.{Layout}
 use Rattle.shared_table.specs.declared.view.Item.{Item}
 use Rattle.shared_table.specs.declared.view.Item.TheVariants.{Split, Join, Take, Give, Load, Store}
@@ -15,8 +15,8 @@ use Rattle.shared_table.specs.declared.view.View.{View}
 use Rattle.shared_table.specs.declared.view.Held.{Held}
 use Rattle.shared_table.specs.Steps.{Told}
 use Rattle.shared_table.specs.Rule.{word_place, HoldsObject, HasTurn, Kept}
-use Rattle.shared_table.specs.Laws.{Turn, turn, turn_list, FollowFrom, last_left, other, marks, next_number, InTurn, ends_open, ends_number, is_open, splits_in, below, AllJoined, HasLineUp}
-use Rattle.shared_table.proofs.Pasts.{if_here, if_else, log_else, fresh_log, holder_out}
+use Rattle.shared_table.specs.Laws.{Turn, turn, turn_list, FollowFrom, last_left, other, marks, next_number, InTurn, ends_open, ends_number, is_open, splits_in, joins_of, below, AllJoined, HasLineUp}
+use Rattle.shared_table.proofs.Pasts.{if_here, if_else, some_below, log_else, fresh_log, holder_out}
 
 snoc_length : {A : Type 0} (l : List A) (x : A) → length (l ++ x ∷ []) ≡ suc (length l)
 snoc_length [] x = refl
@@ -217,6 +217,72 @@ module _ (lay : Layout) where
   splits_are ((n, Give j t f g) ∷ past) h = ap (λ (z : List ℕ). 0 ∷ z) (no_split past n (Give j t f g) refl) ∙ splits_are past h.2
   splits_are ((n, Load c w) ∷ past) h = ap (λ (z : List ℕ). 0 ∷ z) (no_split past n (Load c w) refl) ∙ splits_are past h.2
   splits_are ((n, Store c w) ∷ past) h = ap (λ (z : List ℕ). 0 ∷ z) (no_split past n (Store c w) refl) ∙ splits_are past h.2
+
+  abbrev join_of : ℕ → Item → ℕ
+  join_of m x = joins_of m (x ∷ [])
+
+  joins_more : (m : ℕ) (l : Log) (x : Item) → joins_of m (l ++ x ∷ []) ≡ joins_of m l + join_of m x
+  joins_more m [] x = omega arith
+  joins_more m (Join j ∷ l) x = (let e = joins_more m l x in omega arith)
+  joins_more m (Split j ∷ l) x = joins_more m l x
+  joins_more m (Take j t ∷ l) x = joins_more m l x
+  joins_more m (Give j t f g ∷ l) x = joins_more m l x
+  joins_more m (Load c w ∷ l) x = joins_more m l x
+  joins_more m (Store c w ∷ l) x = joins_more m l x
+
+  no_join : (past : Past) (n m : ℕ) (x : Item) → join_of m x ≡ 0 → joins_of m (log_of 0 ((n, x) ∷ past)) ≡ joins_of m (log_of 0 past)
+  no_join past n m x none = dite (ℕ_discrete n 0)
+      (λ e. ap (joins_of m) (if_here n 0 (log_of 0 past ++ x ∷ []) (log_of 0 past) e) ∙ (let q = joins_more m (log_of 0 past) x in omega arith))
+      (λ o. ap (joins_of m) (log_else past n 0 x o))
+
+  abbrev NotJoined : Past → ℕ → Type 0
+  NotJoined past m = (l : Log) → IsJoined past m l → ⊥
+
+  -- the opening seat's log has one join of each number under which a log is kept, and none of others
+  pub record Joins (past : Past) (m : ℕ) : Type 0 where
+    pub once : (l : Log) → IsJoined past m l → joins_of m (log_of 0 past) ≡ 1
+    pub never : NotJoined past m → joins_of m (log_of 0 past) ≡ 0
+
+  -- a step that joins nobody
+  joins_still : (past : Past) (n m : ℕ) (x : Item) → join_of m x ≡ 0 → ((l : Log) → IsJoined ((n, x) ∷ past) m l → IsJoined past m l) → ((l : Log) → IsJoined past m l → IsJoined ((n, x) ∷ past) m l) → Joins past m → Joins ((n, x) ∷ past) m
+  joins_still past n m x none back on was = record {
+    once = λ l j. no_join past n m x none ∙ was.once l (back l j);
+    never = λ not. no_join past n m x none ∙ was.never (λ l j. not l (on l j));
+  }
+
+  one_join : (j m : ℕ) → j ≡ m → join_of m (Join j) ≡ 1
+  one_join j m e = ap (λ (b : Bool). cond b 1 0 + 0) (eq-eqb j m e)
+
+  no_other : (j m : ℕ) → j ≢ m → join_of m (Join j) ≡ 0
+  no_other j m o = ap (λ (b : Bool). cond b 1 0 + 0) (ne_eqb j m o)
+
+  -- the seat j is joined
+  joins_one : (past : Past) (n j m : ℕ) → Ok ((n, Join j) ∷ past) → Joins past m → Joins ((n, Join j) ∷ past) m
+  joins_one past n j m h was = dite (ℕ_discrete j m)
+      (λ e.
+      let none = was.never (λ l k. not_both past j m l h.1.2 k e) in
+      let now : joins_of m (log_of 0 ((n, Join j) ∷ past)) ≡ 1 =
+      ap (joins_of m) (if_here n 0 (log_of 0 past ++ Join j ∷ []) (log_of 0 past) h.1.0)
+      ∙ (let a = joins_more m (log_of 0 past) (Join j) in let b = one_join j m e in omega (arith, none)) in
+      record {
+        once = λ l k. now;
+        never = λ not. absurd (not (log_of j past) (subst (λ (z : ℕ). IsJoined ((n, Join j) ∷ past) z (log_of j past)) e (set_here (logs_of past) j (Some (log_of j past)) (some_below (logs_of past) j None h.1.2))));
+      })
+      (λ o. joins_still past n m (Join j) (no_other j m o)
+      (λ l k. ⊎_elim (λ (t : (m ≡ j) × (Some (log_of j past) ≡ Some l)). absurd (o (sym t.0))) (λ (t : (m ≢ j) × IsJoined past m l). t.1) (at_set (logs_of past) j m (Some (log_of j past)) (Some l) k))
+      (λ l k. joined_stays past n m (Join j) l h.1 k) was)
+
+  pub joins_are : (past : Past) (m : ℕ) → Ok past → Joins past m
+  joins_are [] zero h = record { once = λ l e. absurd (let b = some-injective None (Some l) e in cc); never = λ not. refl }
+  joins_are [] (suc m) h = record { once = λ l e. absurd (some-ne-none (Some l) (sym e)); never = λ not. refl }
+  joins_are ((n, Split j) ∷ past) m h = joins_still past n m (Split j) refl
+      (λ l k. ⊎_elim (λ was. was) (λ new. absurd (cc)) (at_snoc (logs_of past) None (Some l) m k))
+      (λ l k. joined_stays past n m (Split j) l h.1 k) (joins_are past m h.2)
+  joins_are ((n, Join j) ∷ past) m h = joins_one past n j m h (joins_are past m h.2)
+  joins_are ((n, Take j t) ∷ past) m h = joins_still past n m (Take j t) refl (λ l k. k) (λ l k. k) (joins_are past m h.2)
+  joins_are ((n, Give j t f g) ∷ past) m h = joins_still past n m (Give j t f g) refl (λ l k. k) (λ l k. k) (joins_are past m h.2)
+  joins_are ((n, Load c w) ∷ past) m h = joins_still past n m (Load c w) refl (λ l k. k) (λ l k. k) (joins_are past m h.2)
+  joins_are ((n, Store c w) ∷ past) m h = joins_still past n m (Store c w) refl (λ l k. k) (λ l k. k) (joins_are past m h.2)
 
   -- the word of an object that a live seat has
   pub held_word : (s : State Slot View) (r : Kept lay s) (j : ℕ) (v : View) (h : Held) → get_elem? s.views j ≡ some v → v.live ≡ true → v.held ≡ Some h → get_or s.words (word_place h.object) 0 ≡ 2 * h.done + 1

@@ -79,7 +79,7 @@ abbrev pub is_open : Option ℕ → Bool
 is_open None = false
 is_open (Some n) = true
 
--- the numbers of the seats that a log splits, and those that it joins
+-- the numbers of the seats that a log splits
 abbrev pub splits_in : List Item → List ℕ
 splits_in [] = []
 splits_in (Split m ∷ l) = m ∷ splits_in l
@@ -88,6 +88,16 @@ splits_in (Take j t ∷ l) = splits_in l
 splits_in (Give j t found left ∷ l) = splits_in l
 splits_in (Load c w ∷ l) = splits_in l
 splits_in (Store c w ∷ l) = splits_in l
+
+-- how often a log joins the seat m
+abbrev pub joins_of : ℕ → List Item → ℕ
+joins_of m [] = 0
+joins_of m (Join j ∷ l) = (if j == m then 1 else 0) + joins_of m l
+joins_of m (Split j ∷ l) = joins_of m l
+joins_of m (Take j t ∷ l) = joins_of m l
+joins_of m (Give j t found left ∷ l) = joins_of m l
+joins_of m (Load c w ∷ l) = joins_of m l
+joins_of m (Store c w ∷ l) = joins_of m l
 
 abbrev pub below : ℕ → List ℕ
 below zero = []

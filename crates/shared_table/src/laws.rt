@@ -12,7 +12,7 @@ ghost use Rattle.shared_table.specs.Layouts.{objects_of, first_of};
 ghost use Rattle.shared_table.specs.Past.{Slot, Log, Past, IsSoundSlot, IsCellWord, turns_of, cell_of, log_of, logs_of, IsOut, Lawful};
 ghost use Rattle.shared_table.specs.Rule.{Kept, HoldsObject, word_place};
 ghost use Rattle.shared_table.specs.Steps.{Told};
-ghost use Rattle.shared_table.specs.Laws.{turn_list, FollowFrom, last_left, marks, InTurn, splits_in, below, AllJoined, HasLineUp};
+ghost use Rattle.shared_table.specs.Laws.{turn_list, FollowFrom, last_left, marks, InTurn, joins_of, splits_in, below, AllJoined, HasLineUp};
 
 /// The turns of an object are numbered from 1. The first found the object's first value, and each
 /// other what the one before it left; takes and gives of one object alternate; all values are sound.
@@ -50,7 +50,8 @@ pub fn order_law()
 
 /// Each live seat is the opening one or one that is out, its number is below the count of seats that
 /// were made, and no two have one number. The opening seat's log has a split of each number that was
-/// made but 0, each once and in order.
+/// made but 0, each once and in order, and a join of each number under which it keeps a log, each once,
+/// and of no other.
 pub fn seats_law()
     ensures out { (lay : Layout) (s : State Slot View) (r : Kept lay s) (j : ℕ) (v : View) → get_elem? s.views j ≡ some v → v.live ≡ true → IsOut r.past v.number }
     ensures present { (lay : Layout) (s : State Slot View) (r : Kept lay s) (n : ℕ) → IsOut r.past n → (j : ℕ) × (v : View) × (get_elem? s.views j ≡ some v) × (v.live ≡ true) × (v.number ≡ n) }
@@ -59,6 +60,8 @@ pub fn seats_law()
     ensures opening { (lay : Layout) (s : State Slot View) (r : Kept lay s) (j : ℕ) (v : View) → get_elem? s.views j ≡ some v → v.live ≡ true → v.number ≡ 0 → v.logs ≡ logs_of r.past }
     ensures below { (past : Past) (n : ℕ) → IsOut past n → n < length (logs_of past) }
     ensures splits { (lay : Layout) (past : Past) → Lawful lay past → 0 ∷ splits_in (log_of 0 past) ≡ below (length (logs_of past)) }
+    ensures joined { (lay : Layout) (past : Past) (m : ℕ) (l : Log) → Lawful lay past → get_elem? (logs_of past) m ≡ some (Some l) → joins_of m (log_of 0 past) ≡ 1 }
+    ensures not_joined { (lay : Layout) (past : Past) (m : ℕ) → Lawful lay past → ((l : Log) → get_elem? (logs_of past) m ≡ some (Some l) → ⊥) → joins_of m (log_of 0 past) ≡ 0 }
 {}
 
 /// What the opening seat knows where no other is out: it has all logs, they have one order, and each

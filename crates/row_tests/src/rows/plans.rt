@@ -64,6 +64,12 @@ fn plans_and_limits_count(rt: HostRuntime) -> Result<(), Fail> {
 
 const TWO_WRITERS: &str = "main: N(a) N(b) T; a: E(write8,0) T; b: E(write8,0) T";
 
+/// Both threads spend slots, of which there are two.
+const STARVING: &str =
+    "main: N(a) E(write8,0) E(release,8) E(write8,24) T; a: E(release,16) E(release,16) E(write8,0) E(write8,24) T";
+
+static STARVED: [&str; 4] = ["--harts=2", "--slots=2", "--epochs=2", "--plan=0:22,1:100"];
+
 static SLOTS: [Row<'static>; 3] = [
     // b takes the slot that a gave back, and with it a's clock.
     Row {
@@ -88,8 +94,8 @@ static SLOTS: [Row<'static>; 3] = [
     },
     // Spent slots begin an era, and a pair across eras isn't told.
     Row {
-        program: "main: N(a) E(write8,0) E(release,8) E(write8,24) T; a: E(release,16) E(release,16) E(write8,0) E(write8,24) T",
-        options: &["--harts=2", "--slots=2", "--epochs=2", "--plan=0:22,1:100"],
+        program: STARVING,
+        options: &STARVED,
         races: &[Race {
             mine: "Write of size 8 at 0x0000000001000018 by thread T1",
             stack: &[(UNKNOWN, 0x10108)],
@@ -177,5 +183,28 @@ fn notes_tell_which_slots_are_taken_and_left(rt: HostRuntime) -> Result<(), Fail
     ];
     assert_eq!(rt; notes.as_slice(), expected.as_slice());
     assert_eq!(rt; finished.last.end, GuestEnd::AllEnded);
+    Ok(())
+}
+
+#[test]
+fn a_thread_without_a_slot_ends_the_era(rt: HostRuntime) -> Result<(), Fail> {
+    let alloc = rt.alloc();
+    let file = assemble(alloc, STARVING, &Form::PLAIN)?;
+    let mut words = Vec::new(alloc);
+    words.push("step")?;
+    words.push("p")?;
+    words.extend_from_slice(&STARVED)?;
+    let answer = call(alloc, words.as_slice(), &file)?;
+    let Some(finished) = &answer.ended.kept else {
+        panic!(rt; "nothing is kept");
+    };
+    let mut steps = 0u32;
+    for entry in finished.history.entries.as_slice() {
+        if entry.tid == 1 && entry.era == 0 {
+            steps = steps.saturating_add(entry.steps);
+        }
+    }
+    assert_eq!(rt; steps, 26);
+    assert_eq!(rt; finished.last.era, 1);
     Ok(())
 }

@@ -37,7 +37,7 @@ fn spellings_run_the_file(rt: HostRuntime) -> Result<(), Fail> {
 const USAGE: &str = "usage: tsanrun run|step FILE [options] or tsanrun gen [options]\n";
 
 /// Words that are refused, and why: of several faults the first in the order of the tests.
-static REFUSED: [(&[&str], UsageFault); 14] = [
+static REFUSED: [(&[&str], UsageFault); 15] = [
     (&[], UsageFault::Words),
     (&["step", "p", "--harts=1", "--harts=1"], UsageFault::Words),
     (&["step", "p", "--slots"], UsageFault::Words),
@@ -47,6 +47,7 @@ static REFUSED: [(&[&str], UsageFault); 14] = [
     // Threads can't run at once yet.
     (&["run", "p"], UsageFault::Command),
     (&["step", "--harts=0"], UsageFault::File),
+    (&["run"], UsageFault::File),
     (&["gen", "p"], UsageFault::File),
     (&["step", "p", "--steps=+1", "--plan=x"], UsageFault::Number),
     (&["gen", "--size=10001"], UsageFault::Number),

@@ -1,7 +1,7 @@
 use Rattle.std.proofs.Common.{None}
 use Rattle.shared_table.specs.Past.{logs_of}
 use Rattle.shared_table.proofs.Pasts.{some_below}
-use Rattle.shared_table.proofs.PastLaws.{splits_are}
+use Rattle.shared_table.proofs.PastLaws.{splits_are, joins_are}
 use Rattle.shared_table.proofs.laws.seats_law.Goals as goal
 
 pub returns-clause-out : goal.returns-clause-out
@@ -24,3 +24,9 @@ returns-clause-below c past n out = some_below (logs_of past) n None out
 
 pub returns-clause-splits : goal.returns-clause-splits
 returns-clause-splits c lay past h = splits_are lay past h
+
+pub returns-clause-joined : goal.returns-clause-joined
+returns-clause-joined c lay past m l h here = (joins_are lay past m h).once l here
+
+pub returns-clause-not_joined : goal.returns-clause-not_joined
+returns-clause-not_joined c lay past m h none = (joins_are lay past m h).never none
