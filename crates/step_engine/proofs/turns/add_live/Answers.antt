@@ -1,4 +1,4 @@
-use Rattle.std.proofs.Common.{◌≡◌, ◌+◌, ◌-◌, ◌++◌, ℕ, List, ap, sym, ◌∙◌, arith, append_assoc}
+use Rattle.std.proofs.Common.{ap, sym, ◌∙◌, arith}
 use Rattle.bare_machine.specs.World.{lives}
 use Rattle.step_engine.proofs.LiveLaws.{live-added, none-added}
 use Rattle.step_engine.proofs.turns.add_live.Goals as goal

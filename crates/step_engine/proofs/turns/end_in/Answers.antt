@@ -1,4 +1,4 @@
-use Rattle.std.proofs.Common.{sym, ap, rules, arith, ◌∙◌, ◌≡◌, ◌<◌, length, true, refl}
+use Rattle.std.proofs.Common.{sym, rules, ◌∙◌, ◌≡◌, ◌<◌, length, true, refl}
 use Rattle.std.specs.Prelude.{find, is_some}
 use Rattle.step_engine.specs.Live.{live_of}
 use Rattle.step_engine.proofs.LiveLaws.{first-found}

@@ -1,4 +1,3 @@
-use Rattle.std.proofs.Common.{rules, ◌≡◌, List, ℕ, subst, sym, refl, inl, inr}
 use Rattle.tsanrun_cli.proofs.Complete.{complete_from, refused_complete, out_is, err_is}
 use Rattle.tsanrun_cli.proofs.tool.tool_step.Goals as goal
 

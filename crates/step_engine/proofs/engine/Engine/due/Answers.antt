@@ -1,4 +1,4 @@
-use Rattle.std.proofs.Common.{sym, ◌∙◌, rules, arith, ◌≡◌, Some}
+use Rattle.std.proofs.Common.{sym, ◌∙◌, arith, ◌≡◌, Some}
 use Rattle.bare_machine.specs.World.{lives}
 use Rattle.run_laws.specs.Rounds.{next_live}
 use Rattle.step_engine.proofs.LiveLaws.{next-lives}
