@@ -22,7 +22,7 @@ use Rattle.watched_turns.proofs.Run.{Runs, runs, runs_tell}
 
 module _ (file : List ℕ) (harts g : ℕ) where
   -- the acts of one turn, one call after another
-  acts_placed : (m : State Local Value) (t k : ℕ) (rest : List Act) → WerePlaced file harts g (m.local t) (m.value k) t k rest → ArePlaced file harts g m (singles t k rest)
+  pub acts_placed : (m : State Local Value) (t k : ℕ) (rest : List Act) → WerePlaced file harts g (m.local t) (m.value k) t k rest → ArePlaced file harts g m (singles t k rest)
   acts_placed m t k [] p = tt
   acts_placed m t k (a ∷ rest) p =
       let r = watched_turn file harts g t a (m.local t) (m.value k) in (
@@ -32,12 +32,12 @@ module _ (file : List ℕ) (harts g : ℕ) where
             (subst (λ (v : Value). WerePlaced file harts g r.local v t k rest) (sym (but_here m.value k k r.value refl)) p.1)),
       )
 
-  placed_append : (m : State Local Value) (xs ys : List (Call Act)) → ArePlaced file harts g m xs → ArePlaced file harts g (after (watched_turn file harts g) m xs) ys → ArePlaced file harts g m (xs ++ ys)
+  pub placed_append : (m : State Local Value) (xs ys : List (Call Act)) → ArePlaced file harts g m xs → ArePlaced file harts g (after (watched_turn file harts g) m xs) ys → ArePlaced file harts g m (xs ++ ys)
   placed_append m [] ys p q = q
   placed_append m (x ∷ xs) ys p q = (p.0, placed_append (next (watched_turn file harts g) m x) xs ys p.1 q)
 
   -- the acts of a line-up
-  line_placed : (m : State (Stamped Local) (Stamped Value)) (ds : List StampedDeed) → IsLineUp (stamped (many (watched_turn file harts g))) m ds → Each (WasPlaced file harts g) ds → ArePlaced file harts g (plain m) (acts (calls ds))
+  pub line_placed : (m : State (Stamped Local) (Stamped Value)) (ds : List StampedDeed) → IsLineUp (stamped (many (watched_turn file harts g))) m ds → Each (WasPlaced file harts g) ds → ArePlaced file harts g (plain m) (acts (calls ds))
   line_placed m [] l p = tt
   line_placed m (d ∷ ds) l p =
       let s = line_step (stamped (many (watched_turn file harts g))) m d ds l in

@@ -22,7 +22,7 @@ module _ (file : List ℕ) (harts g slots : ℕ) (ok : image_of file ≡ Ok file
   abbrev its : Stamped Value → ℕ
   its x = x.last
 
-  between_watched : (w : World) (n base : ℕ) (begins : Bool) (m : State (Stamped Local) (Stamped Value)) → EraStands h n begins → IsWatched file harts g slots w h n (plain m) → IsWatched file harts g slots w h (n + cond begins 1 0) (plain (between slots base begins m))
+  pub between_watched : (w : World) (n base : ℕ) (begins : Bool) (m : State (Stamped Local) (Stamped Value)) → EraStands h n begins → IsWatched file harts g slots w h n (plain m) → IsWatched file harts g slots w h (n + cond begins 1 0) (plain (between slots base begins m))
   between_watched w n base true m e j = (let q : suc n ≡ n + 1 = omega arith in subst (λ (i : ℕ). IsWatched file harts g slots w h i (plain (between slots base true m))) q (era_watched file harts g slots w h n (plain m) e j))
   between_watched w n base false m e j = (let q : n ≡ n + 0 = omega arith in subst (λ (i : ℕ). IsWatched file harts g slots w h i (plain m)) q j)
 

@@ -16,7 +16,7 @@ use Rattle.watched_turns.proofs.Events.{era_watches}
 use Rattle.watched_turns.proofs.Project.{item_of, items_stand, all_items, joint_tells, joint_placed}
 use Rattle.watched_turns.proofs.Together.{comes_watched}
 
-stand_parts : (h : List Moment) (n : ℕ) (xs ys : List Told) → StandFrom h n (xs ++ ys) → StandFrom h n xs × StandFrom h (n + length xs) ys
+pub stand_parts : (h : List Moment) (n : ℕ) (xs ys : List Told) → StandFrom h n (xs ++ ys) → StandFrom h n xs × StandFrom h (n + length xs) ys
 stand_parts h n [] ys s = let e : n ≡ n + 0 = omega arith in (tt, subst (λ (i : ℕ). StandFrom h i ys) e s)
 stand_parts h n (x ∷ xs) ys s =
     let r = stand_parts h (suc n) xs ys s.1 in
