@@ -5,3 +5,5 @@ pub mod Rounds
 pub mod Found
 pub mod Stamps
 pub mod Faithful
+pub mod Alike
+pub mod Checked

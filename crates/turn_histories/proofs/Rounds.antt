@@ -68,7 +68,7 @@ zip_append R (a ∷ xs) [] cs ds p q = absurd p
 zip_append R (a ∷ xs) (b ∷ bs) cs ds p q = (p.0, zip_append R xs bs cs ds p.1 q)
 
 module _ (file : List ℕ) (harts g : ℕ) where
-  all_told : (ds : List StampedDeed) (es : List Entry) → AllZip (IsEntryOf file harts g) ds es → AllZip IsTold (moments_of es) (all_of (told_of ds))
+  pub all_told : (ds : List StampedDeed) (es : List Entry) → AllZip (IsEntryOf file harts g) ds es → AllZip IsTold (moments_of es) (all_of (told_of ds))
   all_told [] [] z = tt
   all_told [] (e ∷ es) z = absurd z
   all_told (d ∷ ds) [] z = absurd z
@@ -80,7 +80,7 @@ module _ (file : List ℕ) (harts g : ℕ) where
   era_stands pre post false = tt
   era_stands pre post true = ap (λ (m : Moment). m.item) (at_seam pre an_era post)
 
-  era_length : (ends : Bool) → length (eras_in ends) ≡ cond ends 1 0
+  pub era_length : (ends : Bool) → length (eras_in ends) ≡ cond ends 1 0
   era_length true = refl
   era_length false = refl
 

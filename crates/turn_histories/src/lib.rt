@@ -10,8 +10,10 @@
 #![tactic(auto)]
 
 ghost use Rattle.std.specs.Prelude.{◌≡◌, ℕ, List, Ok};
-ghost use Rattle.elf_image.specs.File.{image_of};
+ghost use Rattle.elf_image.specs.File.{image_of, granule_of};
 ghost use Rattle.run_record.specs.declared.entry.Entry.{Entry};
+ghost use Rattle.run_laws.specs.Moments.{moments};
+ghost use Rattle.run_laws.specs.Checks.{AreAllChecks, AllStoreRightly};
 ghost use Rattle.run_laws.specs.Faithful.{AtOnce, IsFaithful};
 ghost use Rattle.machine_laws.specs.Machine.{bare_of};
 ghost use Rattle.turn_orders.specs.Machine.{many};
@@ -31,4 +33,19 @@ pub fn faithful_law()
         AreRounds (stamped (many (watched_turn file harts g))) (between slots) (λ (l : Stamped Local). l.last) (λ (x : Stamped Value). x.last) 0 (first_stamped file slots) rs →
         AreRoundsOf file harts g 0 0 rs ess →
         IsFaithful AtOnce (bare_of file harts) (all_entries ess) }
+{}
+
+/// Their checks are those of the accesses, with the words of the threads' labels, and each stores by the rule, whatever words
+/// were loaded.
+pub fn checks_law()
+    ensures checks { (file : List ℕ) (harts g slots : ℕ) (rs : List WatchedRound) (ess : List (List Entry)) →
+        image_of file ≡ Ok file →
+        AreRounds (stamped (many (watched_turn file harts g))) (between slots) (λ (l : Stamped Local). l.last) (λ (x : Stamped Value). x.last) 0 (first_stamped file slots) rs →
+        AreRoundsOf file harts g 0 0 rs ess →
+        AreAllChecks g (granule_of file) (all_entries ess) (moments (all_entries ess)) }
+    ensures stores { (file : List ℕ) (harts g slots : ℕ) (rs : List WatchedRound) (ess : List (List Entry)) →
+        image_of file ≡ Ok file →
+        AreRounds (stamped (many (watched_turn file harts g))) (between slots) (λ (l : Stamped Local). l.last) (λ (x : Stamped Value). x.last) 0 (first_stamped file slots) rs →
+        AreRoundsOf file harts g 0 0 rs ess →
+        AllStoreRightly (moments (all_entries ess)) }
 {}
