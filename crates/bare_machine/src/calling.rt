@@ -24,7 +24,7 @@ use run_record::{GuestEnd, NoMemory};
 use rv_exec::GuestFault;
 
 /// -n as a word.
-fn minus(n: u64) -> u64
+pub fn minus(n: u64) -> u64
     requires { 0 < n }
     ensures { result ≡ step_of.minus n }
 {
@@ -32,7 +32,7 @@ fn minus(n: u64) -> u64
 }
 
 /// The address of the call's instruction, whether it wrote, and its answer.
-fn outcome(thread: &Thread, wrote: bool, answer: u64) -> Outcome
+pub fn outcome(thread: &Thread, wrote: bool, answer: u64) -> Outcome
     ensures { result ≡ step_of.outcome thread.now wrote answer }
 {
     Outcome {
@@ -42,7 +42,8 @@ fn outcome(thread: &Thread, wrote: bool, answer: u64) -> Outcome
     }
 }
 
-fn answer_thread(thread: &mut Thread, answer: Option<u64>)
+/// The call is done: x10 gets its answer, if it has one, and the next instruction follows.
+pub fn answer_thread(thread: &mut Thread, answer: Option<u64>)
     ensures { thread.new ≡ step_of.answered thread.old answer }
 {
     if let Some(answer) = answer {
@@ -335,7 +336,7 @@ impl Machine {
 }
 
 /// The word with the stored value in its place, where one is stored.
-fn replaced(word: u64, addr: u64, size: u8, stored: Option<u64>) -> Option<u64>
+pub fn replaced(word: u64, addr: u64, size: u8, stored: Option<u64>) -> Option<u64>
     requires { IsField (placing.offset addr) size }
     ensures { result ≡ option_map (with_field word (placing.offset addr) size) stored }
 {

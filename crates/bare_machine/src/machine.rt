@@ -38,9 +38,10 @@ impl Model for Machine {
 }
 
 /// The object that isn't a stripe of memory.
-pub(crate) const DESK: u32 = 64;
+pub const DESK: u32 = 64;
 
-fn number(fault: GuestFault) -> u8
+/// The number of a fault, from 1.
+pub fn fault_number(fault: GuestFault) -> u8
     ensures { result ≡ number_of fault }
 {
     match fault {
@@ -55,7 +56,8 @@ fn number(fault: GuestFault) -> u8
     }
 }
 
-fn first(one: Option<GuestEnd>, other: Option<GuestEnd>) -> Option<GuestEnd>
+/// The first of two ends, if any.
+pub fn first_end(one: Option<GuestEnd>, other: Option<GuestEnd>) -> Option<GuestEnd>
     ensures { result ≡ first_of one other }
 {
     match one {
@@ -65,7 +67,7 @@ fn first(one: Option<GuestEnd>, other: Option<GuestEnd>) -> Option<GuestEnd>
 }
 
 /// The events that an instruction has before its own.
-pub(crate) fn events_before(thread: &Thread) -> CallEvents
+pub fn events_before(thread: &Thread) -> CallEvents
     ensures events { result ≡ first_events thread.now }
     ensures few { length result ≤ 1 }
 {
@@ -116,7 +118,7 @@ impl Machine {
         thread.lives = false;
         thread.began = true;
         events.push(Event::End);
-        self.ended = first(self.ended, end);
+        self.ended = first_end(self.ended, end);
         Stepped {
             events,
             object: Some(DESK),
@@ -132,7 +134,7 @@ impl Machine {
         self.stop(
             tid,
             Some(GuestEnd::Fault {
-                fault: number(fault),
+                fault: fault_number(fault),
                 pc,
                 tid,
             }),

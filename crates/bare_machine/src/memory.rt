@@ -33,7 +33,8 @@ impl Model for Memory {
     ghost view = { λ m. record { words = m.words.items; reservations = m.reservations } };
 }
 
-pub(crate) fn stripe(addr: u64) -> u32
+/// The object that has an address of memory, from 0 to 63.
+pub fn stripe(addr: u64) -> u32
     ensures { result ≡ memory.stripe addr }
 {
     (addr / 8 % 64) as u32

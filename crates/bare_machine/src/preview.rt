@@ -36,7 +36,7 @@ fn at_address(image: &Image<'_>, addr: u64, constant: Acted) -> Acted
 
 /// How the instruction at the pc goes, whatever memory holds; a call leaves the registers.
 #[tactic(auto, unfolding(crate::specs::Memory::action))]
-fn outlook(image: &Image<'_>, regs: &Regs) -> Acted
+pub fn outlook(image: &Image<'_>, regs: &Regs) -> Acted
     ensures acted { (tid : ℕ) (m : GuestMemory) → (action image.now tid regs.now m).acted ≡ result }
     ensures called { (tid : ℕ) (m : GuestMemory) → result ≡ Acted.Called → (action image.now tid regs.now m).registers ≡ regs.now }
 {
@@ -98,7 +98,8 @@ fn told_uses(call: Option<Call>, depth: u32) -> bool
     }
 }
 
-fn acted_needs(acted: Acted, regs: &Regs) -> bool
+/// Whether only a thread with a slot makes an instruction that goes so, where it has begun.
+pub fn acted_needs(acted: Acted, regs: &Regs) -> bool
     ensures { result ≡ previews.acted_needs acted regs.now }
 {
     match acted {

@@ -1,0 +1,2 @@
+pub mod StripeLemmas
+pub mod DeskLemmas

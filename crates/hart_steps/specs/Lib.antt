@@ -1,0 +1,4 @@
+pub mod Asked
+pub mod Harts
+pub mod Stripes
+pub mod Desks
