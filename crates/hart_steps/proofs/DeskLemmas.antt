@@ -1,5 +1,5 @@
 -- Requests that are served at the desk.
-use Rattle.std.proofs.Common.{◌≡◌, ℕ, Bool, List, [], ◌∷◌, ◌++◌, Option, refl, sym, ap, subst, ◌∙◌}
+use Rattle.std.proofs.Common.{◌≡◌, ℕ, Bool, List, Option, sym, ap, subst, ◌∙◌}
 use Rattle.run_record.specs.declared.event.Event.{Event}
 use Rattle.place_turns.specs.Requests.{request}
 use Rattle.place_turns.specs.Turns.{served}

@@ -1,6 +1,6 @@
 -- A stripe's list of words beside the words by granule.
-use Rattle.std.proofs.Common.{◌≡◌, ◌≢◌, ◌<◌, ℕ, Bool, true, false, cond, eqb, ltb, List, [], ◌++◌, ◌⊎◌, inl, inr, length, Option, Some, None, refl, sym, ap, subst, ◌∙◌, arith, eq-eqb, ne_eqb}
-use Rattle.std.specs.Prelude.{◌&&◌, slice_index, slice_set, is_some, option_map}
+use Rattle.std.proofs.Common.{◌≡◌, ◌≢◌, ◌<◌, ℕ, Bool, true, false, cond, eqb, ltb, List, [], inl, inr, length, Option, Some, None, refl, sym, ap, subst, ◌∙◌, arith, eq-eqb}
+use Rattle.std.specs.Prelude.{◌&&◌, slice_index, slice_set, option_map}
 use Rattle.std.proofs.lemmas.Bool.{lt-ltb, ltb-true, ltb-false, eqb-true, cases_Bool}
 use mathlib.Core.Path.{fun_ext}
 use mathlib.Core.Logic.{dite}
@@ -13,7 +13,7 @@ use Rattle.guest_memory.specs.Fields.{field, with_field}
 use Rattle.guest_memory.specs.Reservations.{without_granule}
 use Rattle.entry_calls.specs.Effects.{word_by}
 use Rattle.bare_machine.specs.declared.touch.Touched.{Touched}
-use Rattle.bare_machine.specs.Memory.{offset, touched}
+use Rattle.bare_machine.specs.Memory.{offset}
 use Rattle.shared_table.specs.Layouts.{count_below, place_in}
 use Rattle.shared_table.proofs.Dealing.{counted}
 use Rattle.turn_orders.specs.Machine.{but}
@@ -29,8 +29,8 @@ use Rattle.hart_steps.specs.declared.request.Request.{Request}
 use Rattle.hart_steps.specs.declared.request.Request.TheVariants as kinds
 use Rattle.hart_steps.specs.declared.hart.Hart.{Hart}
 use Rattle.hart_steps.specs.Asked.{asked, IsWithin, granule_in}
-use Rattle.hart_steps.specs.Harts.{local_of, turn}
-use Rattle.hart_steps.specs.Stripes.{words_of, stripe_value, IsIndexOf, AreFirst, words_written, reservations_written, settled, Left, left_turn, touch_left, touched_by, touches, operate_left, operates}
+use Rattle.hart_steps.specs.Harts.{local_of, turn, leaves}
+use Rattle.hart_steps.specs.Stripes.{words_of, stripe_value, IsIndexOf, AreFirst, words_written, reservations_written, settled, Left, touch_left, touched_by, touches, operate_left, operates}
 
 cond_alike : (b : Bool) (x y z : ℕ) → (b ≡ true → x ≡ y) → cond b x z ≡ cond b y z
 cond_alike true x y z h = h refl
@@ -113,6 +113,10 @@ module _ (file : List ℕ) where
     changed_is : (t : ℕ) (rs : List Reservation) (effect : Effect) (word : Option ℕ) →
         of_stripe (stripe_written (stripe_reserved (before rs) t n effect) n word) ≡ stripe_value file k (words_written words index word) (reservations_written (settled rs t n effect) n word)
     changed_is t rs effect word = ap (λ (s : Stripe). of_stripe (stripe_written s n word)) (reserved_is t rs effect) ∙ written_is (settled rs t n effect) word
+
+-- the turn that leaves this at stripe k
+abbrev left_turn : List ℕ → ℕ → Left → Turned
+left_turn file k l = leaves l.hart (stripe_value file k l.words l.reservations) l.events
 
 module _ (file : List ℕ) (h : Hart) (words : List ℕ) (rs : List Reservation) (index : ℕ) where
   abbrev at_granule : ℕ → Stripe

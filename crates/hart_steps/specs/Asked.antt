@@ -1,13 +1,10 @@
 -- What a request says of the machine by threads and places, and what holds of one.
-use Rattle.std.specs.Prelude.{ℕ, ◌≤◌, ◌<◌, List, length, Option}
-use Rattle.rv_decode.specs.declared.instr.Instr.{Instr}
+use Rattle.std.specs.Prelude.{ℕ, ◌≤◌, ◌<◌, List, length}
 use Rattle.rv_decode.specs.Table.{IsInstr}
-use Rattle.rv_exec.specs.declared.exec.Effect.{Effect}
 use Rattle.rv_exec.specs.Meaning.{meaning}
 use Rattle.rv_exec.specs.Effects.{IsPlaced, TellsAtomic}
 use Rattle.elf_image.specs.File.{granules_of}
 use Rattle.guest_memory.specs.Fields.{IsField}
-use Rattle.entry_calls.specs.declared.call.Call.{Call}
 use Rattle.entry_calls.specs.declared.call.Outcome.{Outcome}
 use Rattle.entry_calls.specs.Calls.{IsCall}
 use Rattle.entry_calls.specs.Effects.{IsAnswered}

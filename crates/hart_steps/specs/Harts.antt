@@ -1,5 +1,5 @@
 -- A thread's own state, and what a turn of it leaves.
-use Rattle.std.specs.Prelude.{ℕ, List, Option, Some, None}
+use Rattle.std.specs.Prelude.{ℕ, List, Some, None}
 use Rattle.run_record.specs.declared.event.Event.{Event}
 use Rattle.place_turns.specs.Places.{Local, Value}
 use Rattle.place_turns.specs.Turns.{Turned, steps, bare_turn}

@@ -1,5 +1,5 @@
 -- A stripe of memory as a list of words, and what is left there.
-use Rattle.std.specs.Prelude.{◌≡◌, ℕ, ◌+◌, ◌<◌, ◌==◌, ◌&&◌, nat_lt, true, if◌then◌else◌, List, [], ◌++◌, length, slice_index, slice_set, Option, Some, None, is_some, option_map}
+use Rattle.std.specs.Prelude.{◌≡◌, ℕ, ◌<◌, ◌==◌, ◌&&◌, nat_lt, true, if◌then◌else◌, List, [], ◌++◌, length, slice_index, slice_set, Option, Some, None, is_some, option_map}
 use Rattle.run_record.specs.declared.event.Event.{Event}
 use Rattle.rv_exec.specs.declared.exec.Effect.{Effect}
 use Rattle.rv_exec.specs.declared.exec.Effect.TheVariants.{Reserve, Conditional}
@@ -15,11 +15,10 @@ use Rattle.bare_machine.specs.Memory.{offset, touched}
 use Rattle.bare_machine.specs.Step.{first_events, answered, outcome, with_registers}
 use Rattle.shared_table.specs.Layouts.{place_in, size_in}
 use Rattle.place_turns.specs.Places.{Value, of_stripe, stripe_at, reserves}
-use Rattle.place_turns.specs.Turns.{Turned, reserved_after}
+use Rattle.place_turns.specs.Turns.{reserved_after}
 use Rattle.hart_steps.specs.declared.request.Touch.{Touch}
 use Rattle.hart_steps.specs.declared.request.Operation.{Operation}
 use Rattle.hart_steps.specs.declared.hart.Hart.{Hart}
-use Rattle.hart_steps.specs.Harts.{leaves}
 
 -- The words by granule, of which stripe k keeps its own in a list, by rising granule. Of the granules of other stripes it has
 -- the words that the file has.
@@ -63,10 +62,6 @@ pub record Left : Type 0 where
   pub words : List ℕ
   pub reservations : List Reservation
   pub events : List Event
-
--- the turn that leaves this at stripe k
-abbrev pub left_turn : List ℕ → ℕ → Left → Turned
-left_turn file k l = leaves l.hart (stripe_value file k l.words l.reservations) l.events
 
 abbrev pub touch_left : ℕ → Hart → List ℕ → List Reservation → ℕ → Touch → Touched → Left
 touch_left t h words reservations index r made =

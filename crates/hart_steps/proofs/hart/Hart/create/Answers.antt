@@ -1,4 +1,4 @@
-use Rattle.std.proofs.Common.{◌≡◌, ◌∙◌, ℕ, Bool, true, false, List, [], ◌∷◌, ◌++◌, length, cond, sym, ap, subst}
+use Rattle.std.proofs.Common.{◌≡◌, ◌∙◌, ℕ, Bool, true, List, [], ◌∷◌, ◌++◌, cond, sym, ap, subst}
 use Rattle.entry_calls.specs.declared.call.Call.TheVariants.{Create}
 use Rattle.bare_machine.specs.declared.thread.Thread.{Thread}
 use Rattle.bare_machine.specs.World.{new_thread}
