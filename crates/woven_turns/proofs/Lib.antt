@@ -1,0 +1,9 @@
+pub mod Standing
+pub mod Items
+pub mod Weaving
+pub mod Sorting
+pub mod Given
+pub mod Placing
+pub mod Loading
+pub mod Cutting
+mod Example

@@ -1,0 +1,5 @@
+pub mod Steps
+pub mod Weave
+pub mod Turns
+pub mod Cells
+pub mod Cuts
