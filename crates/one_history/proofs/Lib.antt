@@ -1,6 +1,8 @@
 pub mod Split
 pub mod Next
-pub mod Notes
+pub mod Stays
+pub mod Takes
+pub mod Leaves
 pub mod Checks
 pub mod Part
 pub mod Runs

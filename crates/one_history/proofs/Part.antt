@@ -17,7 +17,9 @@ use Rattle.run_laws.specs.Present.{labels_now, label_now, queue_now}
 use Rattle.turn_laws.proofs.Shape.{moments_in-push}
 use Rattle.one_history.specs.Reached.{ComesTo, Goes, LeavesLabel, LeaveLabels}
 use Rattle.one_history.proofs.Split.{Side, Lacks, Told, told, step-side}
-use Rattle.one_history.proofs.Notes.{takes, leaves, ends_there, entry_stays}
+use Rattle.one_history.proofs.Stays.{entry_stays}
+use Rattle.one_history.proofs.Takes.{takes}
+use Rattle.one_history.proofs.Leaves.{leaves, ends_there}
 use Rattle.one_history.proofs.Checks.{checks_same}
 
 none_of : (f : ℕ → Label) (o : Option ℕ) → option_map f o ≡ None → o ≡ None
