@@ -1,0 +1,83 @@
+-- Two calls with the same words over the same files write the same.
+use Rattle.std.proofs.Common.{◌≡◌, ℕ, ◌≤◌, List, ◌++◌, Option, Some, None, Result, Ok, Err, refl, sym, ap, ap₂, subst, ◌∙◌}
+use Rattle.std.specs.Prelude.{map, string_bytes}
+use Rattle.std.specs.declared.string.String.{String}
+use Rattle.std.specs.declared.alloc.Global.{Global}
+use Rattle.std.specs.Option.{option_map}
+use Rattle.run_record.specs.declared.finished.Finished.{Finished}
+use Rattle.command_words.specs.declared.request.UsageFault.{UsageFault}
+use Rattle.command_words.specs.Requests.{RequestText, TaskText, run, step, generate, request_of}
+use Rattle.suppress_rules.specs.declared.rule.Rule.{Rule}
+use Rattle.suppress_rules.specs.RuleFile.{rules_of}
+use Rattle.report_text.specs.Status.{status_of}
+use Rattle.step_engine.specs.Run.{IsRun}
+use Rattle.tsanrun_cli.specs.Ends.{served, one_by_one, IsExecutable, AreRules, rules_file, suppressed_by, IsDone}
+use Rattle.tsanrun_cli.specs.Texts.{out_text, err_text}
+use Rattle.tsanrun_cli.specs.Work.{call_of}
+use Rattle.same_run.proofs.Runs.{same_run}
+use Rattle.same_run.proofs.Words.{some_harts}
+
+-- what is served was asked for
+was_asked : (asked : Result RequestText UsageFault) (request : RequestText) → served asked ≡ Ok request → asked ≡ Ok request
+was_asked (Err fault) request q = absurd cc
+was_asked (Ok r) request q = by_task r.task refl
+  where
+    by_task : (task : TaskText) → r.task ≡ task → ◌≡◌ {A = Result RequestText UsageFault} (Ok r) (Ok request)
+    by_task (run file) t = absurd (let z = sym (ap (one_by_one r) t) ∙ q in cc)
+    by_task (step file) t = sym (ap (one_by_one r) t) ∙ q
+    by_task (generate seed size) t = sym (ap (one_by_one r) t) ∙ q
+
+same_executable : (files : List (List ℕ × List ℕ)) (task : TaskText) (bytes other : List ℕ) → IsExecutable (Some files) task bytes → IsExecutable (Some files) task other → bytes ≡ other
+same_executable files (run file) bytes other a b = absurd a
+same_executable files (step file) bytes other a b = let z = sym a.has ∙ b.has in cc
+same_executable files (generate seed size) bytes other a b = a ∙ sym b
+
+same_rules : (files : List (List ℕ × List ℕ)) (name : Option (List ℕ)) (rules other : List Rule) → AreRules (Some files) name rules → AreRules (Some files) name other → rules ≡ other
+same_rules files None rules other a b = a ∙ sym b
+same_rules files (Some name) rules other a b =
+    let text : ◌≡◌ {A = Option (List ℕ)} (Some a.0) (Some b.0) = sym a.1.has ∙ b.1.has in
+    let same : a.0 ≡ b.0 = cc in
+    let z = sym a.2 ∙ (ap rules_of same ∙ b.2) in
+    cc
+
+abbrev appended : Option (List ℕ) → List ℕ → Option (List ℕ)
+appended old bytes = option_map (λ (o : List ℕ). o ++ bytes) old
+
+module _ (words : List (String Global)) (before after reads more : ℕ) (failed missed : List ℕ) (out_old out_new out_other err_old err_new err_other : Option (List ℕ)) (status code : ℕ) (f other : Finished) where
+  same_request : (told known : Option (List (List ℕ × List ℕ))) (a : IsDone (call_of words told before after failed) out_old out_new err_old err_new status f) (b : IsDone (call_of words known reads more missed) out_old out_other err_old err_other code other) → a.request ≡ b.request
+  same_request told known a b = let z = sym a.run.serves.asked ∙ b.run.serves.asked in cc
+
+  pub same_call :
+      (told known : Option (List (List ℕ × List ℕ))) (a : IsDone (call_of words told before after failed) out_old out_new err_old err_new status f) (b : IsDone (call_of words known reads more missed) out_old out_other err_old err_other code other) →
+      a.bytes ≡ b.bytes → a.run.rules ≡ b.run.rules → (out_new ≡ out_other) × (err_new ≡ err_other) × (status ≡ code)
+  same_call told known a b bytes rules = (
+    a.output ∙ (ap (appended out_old) (texts out_text) ∙ sym b.output),
+    a.text ∙ (ap (appended err_old) (texts err_text) ∙ sym b.text),
+    a.status_is ∙ (ap status_of finished ∙ sym b.status_is),
+  )
+    where
+      request : a.request ≡ b.request
+      request = same_request told known a b
+
+      some : 1 ≤ a.request.limits.harts
+      some = some_harts (map string_bytes words) a.request (was_asked (request_of (map string_bytes words)) a.request a.run.serves.asked)
+
+      finished : f ≡ other
+      finished =
+          same_run a.bytes a.request.limits a.request.plan (suppressed_by a.run.rules a.bytes) f other some a.run.is_run
+          (subst (λ (r : RequestText). IsRun a.bytes r.limits r.plan (suppressed_by a.run.rules a.bytes) other) (sym request)
+          (subst (λ (bs : List ℕ). IsRun bs b.request.limits b.request.plan (suppressed_by a.run.rules bs) other) (sym bytes)
+          (subst (λ (rs : List Rule). IsRun b.bytes b.request.limits b.request.plan (suppressed_by rs b.bytes) other) (sym rules) b.run.is_run)))
+
+      texts : (write : TaskText → List ℕ → Finished → List ℕ) → write a.request.task a.bytes f ≡ write b.request.task b.bytes other
+      texts write =
+          ap (λ (r : RequestText). write r.task a.bytes f) request
+          ∙ ap₂ (λ (bs : List ℕ) (g : Finished). write b.request.task bs g) bytes finished
+
+  pub same_over_files : (files : List (List ℕ × List ℕ)) → IsDone (call_of words (Some files) before after failed) out_old out_new err_old err_new status f → IsDone (call_of words (Some files) reads more missed) out_old out_other err_old err_other code other →
+      (out_new ≡ out_other) × (err_new ≡ err_other) × (status ≡ code)
+  same_over_files files a b =
+      let request = same_request (Some files) (Some files) a b in
+      same_call (Some files) (Some files) a b
+      (same_executable files a.request.task a.bytes b.bytes a.run.serves.executable (subst (λ (r : RequestText). IsExecutable (Some files) r.task b.bytes) (sym request) b.run.serves.executable))
+      (same_rules files (rules_file a.request.task a.request.suppressions) a.run.rules b.run.rules a.run.serves.rules_are (subst (λ (r : RequestText). AreRules (Some files) (rules_file r.task r.suppressions) b.run.rules) (sym request) b.run.serves.rules_are))
