@@ -11,7 +11,7 @@ ghost use Rattle.detector.specs.Told.{CanBeTold, TellsPrevious, CanTellAll, Tell
 use crate::Detector;
 use elf_image::Image;
 use race_core::Candidate;
-use report_text::{Reporter, Suppressions};
+use report_text::{Asked, Reporter, Suppressions};
 use run_record::{Label, Locks, NoMemory, Side};
 use shadow_word::{Cell, unpack};
 use std::alloc::Global;
@@ -100,17 +100,18 @@ impl Detector {
         &mut self,
         alloc: Global,
         image: &Image<'_>,
-        suppressions: &S,
+        suppressions: &mut Asked<'_, S>,
         reporter: &mut Reporter,
     ) -> Result<(), NoMemory>
         requires can { CanTellAll image.now self.old }
         requires room { offers reporter.old + length self.old.waiting < 2 ^ 32 - 1 }
-        ensures { OnOk result (TellsAll (is_met (S.rule_met suppressions.now)) image.now self.old self.new reporter.old reporter.new) }
+        ensures told { OnOk result (TellsAll (is_met (S.rule_met suppressions.old)) image.now self.old self.new reporter.old reporter.new) }
+        ensures rules { suppressions.new ≡ suppressions.old }
     {
         let waiting = self.take_waiting(alloc);
         for candidate in waiting {
             let previous = self.previous(alloc, image, &candidate)?;
-            let met = suppressions.rule_met(&candidate.mine.stack, &previous.stack);
+            let met = suppressions.rule_met(&candidate.mine.stack, &previous.stack)?;
             reporter.offer(candidate.mine, previous, met)?;
         }
         Ok(())

@@ -1,3 +1,4 @@
 pub mod StackLaws
+pub mod AnswerLaws
 pub mod OfferLaws
 pub mod TextLaws

@@ -1,5 +1,5 @@
 // Which races are suppressed.
-ghost use Rattle.std.specs.Prelude.{◌≡◌, ℕ, List, Option, None};
+ghost use Rattle.std.specs.Prelude.{◌≡◌, ℕ, List, Option, None, refl};
 
 use run_record::Places;
 
@@ -10,6 +10,9 @@ pub trait Suppressions {
     /// The number of the first rule that the two stacks meet, if there is one.
     fn rule_met(&self, mine: &Option<Places>, previous: &Option<Places>) -> Option<usize>
         ensures { result ≡ rule_met self.now mine.now previous.now };
+
+    /// The order of the two stacks doesn't count.
+    ghost unordered: { (rules : Self) → (mine previous : Option (List ℕ)) → rule_met rules mine previous ≡ rule_met rules previous mine };
 }
 
 /// No rules.
@@ -22,4 +25,6 @@ impl Suppressions for Unsuppressed {
     fn rule_met(&self, _mine: &Option<Places>, _previous: &Option<Places>) -> Option<usize> {
         None
     }
+
+    ghost unordered = { λ _ _ _. refl };
 }

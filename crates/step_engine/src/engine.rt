@@ -14,7 +14,7 @@ ghost use Rattle.step_engine.specs.Run.{IsRun};
 
 use crate::turns::{add_live, due_turn, end_in, keep_live, next_live};
 use elf_image::Image;
-use report_text::{Reporter, Suppressions};
+use report_text::{Asked, Reporter, Suppressions};
 use run_record::{
     Bytes, Entries, Finished, GuestEnd, LastState, Limits, NoMemory, Plan, Record, Turn,
 };
@@ -122,15 +122,16 @@ impl Engine {
         &mut self,
         alloc: Global,
         image: &Image<'_>,
-        suppressions: &S,
+        suppressions: &mut Asked<'_, S>,
         due: Due,
     ) -> Result<(), NoMemory>
         requires can { CanRound self.old due }
         requires some { 0 < due.given }
         requires ready { IsReady image.now (limits_of self.old) self.old }
-        requires told { Told (is_met (S.rule_met suppressions.now)) image.now (limits_of self.old) self.old.entries self.old.reporter }
+        requires told { Told (is_met (S.rule_met suppressions.old)) image.now (limits_of self.old) self.old.entries self.old.reporter }
         ensures made { OnOk result (MakesRound image.now (limits_of self.old) self.old self.new due) }
-        ensures told { OnOk result (Told (is_met (S.rule_met suppressions.now)) image.now (limits_of self.old) self.new.entries self.new.reporter) }
+        ensures told { OnOk result (Told (is_met (S.rule_met suppressions.old)) image.now (limits_of self.old) self.new.entries self.new.reporter) }
+        ensures rules { suppressions.new ≡ suppressions.old }
     {
         image.accepted();
         let end = self.turns(alloc, image, due)?;
@@ -155,15 +156,15 @@ impl Engine {
         image: &Image<'_>,
         limits: &Limits,
         plan: &[Turn],
-        suppressions: &S,
+        suppressions: &mut Asked<'_, S>,
     ) -> Result<GuestEnd, NoMemory>
         requires reached { rounds.Reaches OneByOne limits.now (bare_of image.now limits.now.harts) plan.now (progress self.old plan.now) }
         requires turn { self.old.turn ≤ length plan.now }
         requires ready { IsReady image.now limits.now self.old }
-        requires told { Told (is_met (S.rule_met suppressions.now)) image.now limits.now self.old.entries self.old.reporter }
+        requires told { Told (is_met (S.rule_met suppressions.old)) image.now limits.now self.old.entries self.old.reporter }
         ensures reached { OnOk result (rounds.Reaches OneByOne limits.now (bare_of image.now limits.now.harts) plan.now (progress self.new plan.now)) }
         ensures ready { OnOk result (IsReady image.now limits.now self.new) }
-        ensures told { OnOk result (Told (is_met (S.rule_met suppressions.now)) image.now limits.now self.new.entries self.new.reporter) }
+        ensures told { OnOk result (Told (is_met (S.rule_met suppressions.old)) image.now limits.now self.new.entries self.new.reporter) }
         ensures ends { IfOk result (rounds.Ends OneByOne limits.now (bare_of image.now limits.now.harts) (progress self.new plan.now)) }
     {
         let mut live = Vec::new(alloc);
@@ -199,7 +200,8 @@ pub fn run_plan<S: Suppressions>(
 {
     image.accepted();
     let mut engine = Engine::new(alloc, image, limits)?;
-    let end = engine.run(alloc, image, limits, plan.as_slice(), suppressions)?;
+    let mut suppressions = Asked::new(alloc, suppressions);
+    let end = engine.run(alloc, image, limits, plan.as_slice(), &mut suppressions)?;
     let last = LastState {
         threads: engine.watched.machine.threads(),
         rounds: engine.round,

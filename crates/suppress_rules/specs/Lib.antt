@@ -2,3 +2,5 @@ pub mod Patterns
 pub mod Pieces
 pub mod RuleFile
 pub mod Stacks
+pub mod FrameTests
+pub mod Order

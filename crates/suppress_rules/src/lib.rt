@@ -6,8 +6,10 @@
 //!
 //! In contracts rules are the list of kinds and patterns. What a file means is `rules_of` of `specs/RuleFile.antt`, what a
 //! pattern matches is `matches` of `specs/Patterns.antt`, and what stacks meet is `first_met` and `meets_of` of
-//! `specs/Stacks.antt`. The layer above uses the clauses of `Rules::read` and `first_met`. That takes no memory; of each piece
-//! between two stars of a pattern the code takes the first place in a text, so that it never goes back.
+//! `specs/Stacks.antt`. The layer above uses the clauses of `Rules::read` and `first_met`, and that `first_met` is the same for
+//! two stacks in either order (`specs/Order.antt`). That takes no memory, and looks up each frame once: rules are asked frame by
+//! frame (`specs/FrameTests.antt`). Of each piece between two stars of a pattern the code takes the first place in a text, so
+//! that it never goes back.
 #![tactic(auto)]
 
 mod cut;

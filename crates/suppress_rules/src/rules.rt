@@ -1,7 +1,8 @@
 // The rules of a file, and the stacks that meet them.
-ghost use Rattle.std.specs.Prelude.{◌≡◌, ◌⊎◌, [], take, IfOk, IfErr, is_some, Ok, Err};
-ghost use Rattle.std.specs.List.{list_any};
+ghost use Rattle.std.specs.Prelude.{◌≡◌, ◌⊎◌, [], position, IfOk, IfErr, is_some, Ok, Err};
+ghost use Rattle.std.specs.List.{before_first};
 ghost use Rattle.suppress_rules.specs.RuleFile as file;
+ghost use Rattle.suppress_rules.specs.FrameTests as tests;
 ghost use Rattle.suppress_rules.specs.Stacks as stacks;
 
 use crate::fault::RuleFault;
@@ -11,7 +12,7 @@ use crate::rule::{Kind, Rule};
 use run_record::{Items, Places};
 use std::alloc::Global;
 use std::marker::Model;
-use symbol_lines::Frames;
+use symbol_lines::{Frame, Frames};
 
 /// The rules of a file, in its order. Contracts see the list of their kinds and patterns.
 #[derive(Drop)]
@@ -59,10 +60,14 @@ impl Rules {
     pub fn meets<F: Frames>(&self, frames: &F, one: &[u64], other: &[u64]) -> Option<usize>
         ensures { result ≡ stacks.first_met self.now (F.frame_of frames.now) one.now other.now }
     {
-        self.rules
-            .as_slice()
-            .iter()
-            .position(|rule| is_met(rule, frames, one, other))
+        let rules = self.rules.as_slice();
+        let left = unmet(rules, frames, one);
+        let left = unmet(left, frames, other);
+        if left.len() < rules.len() {
+            Some(left.len())
+        } else {
+            None
+        }
     }
 }
 
@@ -109,34 +114,58 @@ fn places_of(stack: &Option<Places>) -> &[u64]
     }
 }
 
-fn is_met<F: Frames>(rule: &Rule, frames: &F, one: &[u64], other: &[u64]) -> bool
-    ensures { result ≡ stacks.is_met (F.frame_of frames.now) one.now other.now rule.now }
+// The rules before the first one that a frame of the stack meets, or all where none is met. Each frame is looked up once.
+fn unmet<'a, F: Frames>(rules: &'a [Rule], frames: &F, places: &[u64]) -> &'a [Rule]
+    ensures { result.now ≡ before_first (tests.some_frame_meets (F.frame_of frames.now) places.now) rules.now }
 {
-    let pattern = rule.pattern.as_slice();
-    match rule.kind {
-        Kind::Race => {
-            some_frame_matches(pattern, frames, one) || some_frame_matches(pattern, frames, other)
-        }
-        Kind::RaceTop => {
-            some_frame_matches(pattern, frames, top_of(one))
-                || some_frame_matches(pattern, frames, top_of(other))
-        }
-        Kind::NeverMet => false,
+    match places.split_first() {
+        Some((top, below)) => unmet_below(unmet_by(rules, true, frames.frame(*top)), frames, below),
+        None => rules,
     }
 }
 
-// The first place alone, if there is one.
-fn top_of(places: &[u64]) -> &[u64]
-    ensures { result.now ≡ take 1 places.now }
+// The same by the frames below the first one of a stack.
+fn unmet_below<'a, F: Frames>(rules: &'a [Rule], frames: &F, places: &[u64]) -> &'a [Rule]
+    ensures { result.now ≡ before_first (tests.some_other_meets (F.frame_of frames.now) places.now) rules.now }
 {
-    &places[..places.len().min(1)]
+    let mut left = rules;
+    for place in places {
+        left = unmet_by(left, false, frames.frame(*place));
+    }
+    left
 }
 
-fn some_frame_matches<F: Frames>(pattern: &[u8], frames: &F, places: &[u64]) -> bool
-    ensures { result ≡ list_any (λ place. stacks.frame_matches pattern.now (F.frame_of frames.now place)) places.now }
+// The rules before the first one that the frame meets, or all where none is met.
+fn unmet_by<'a>(rules: &'a [Rule], first: bool, frame: Frame<'_>) -> &'a [Rule]
+    ensures { result.now ≡ before_first (tests.frame_meets first (tests.told_by frame.entry)) rules.now }
 {
-    places.iter().any(|place| {
-        let frame = frames.frame(*place);
-        matches(pattern, frame.name.as_bytes()) || matches(pattern, frame.file.as_bytes())
-    })
+    match position_met(rules, first, frame) {
+        Some(at) => &rules[..at],
+        None => rules,
+    }
+}
+
+fn position_met(rules: &[Rule], first: bool, frame: Frame<'_>) -> Option<usize>
+    ensures { result ≡ position (tests.frame_meets first (tests.told_by frame.entry)) rules.now }
+{
+    rules.iter().position(|rule| is_met(rule, first, frame))
+}
+
+// Whether a frame, the first one of its stack or another, meets the rule.
+fn is_met(rule: &Rule, first: bool, frame: Frame<'_>) -> bool
+    ensures { result ≡ tests.frame_meets first (tests.told_by frame.entry) rule.now }
+{
+    let looks = match rule.kind {
+        Kind::Race => true,
+        Kind::RaceTop => first,
+        Kind::NeverMet => false,
+    };
+    looks && some_text_matches(rule.pattern.as_slice(), frame)
+}
+
+// Whether the pattern matches the name of the frame's function or its file.
+fn some_text_matches(pattern: &[u8], frame: Frame<'_>) -> bool
+    ensures { result ≡ stacks.frame_matches pattern.now (tests.told_by frame.entry) }
+{
+    matches(pattern, frame.name.as_bytes()) || matches(pattern, frame.file.as_bytes())
 }

@@ -14,10 +14,13 @@ pub struct NamedRules<'a> {
 impl Suppressions for NamedRules<'_> {
     ghost use Rattle.symbol_lines.specs.Frames.{frame_in};
     ghost use Rattle.suppress_rules.specs.Stacks.{first_met, places_of};
+    ghost use Rattle.suppress_rules.specs.Order.{first_met-turned};
 
     ghost rule_met = { λ s mine previous. first_met s.rules.now (frame_in s.names.now) (places_of mine) (places_of previous) };
 
     fn rule_met(&self, mine: &Option<Places>, previous: &Option<Places>) -> Option<usize> {
         first_met(self.rules, self.names, mine, previous)
     }
+
+    ghost unordered = { λ s mine previous. first_met-turned s.rules.now (frame_in s.names.now) (places_of mine) (places_of previous) };
 }

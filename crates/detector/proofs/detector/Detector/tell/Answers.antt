@@ -18,7 +18,7 @@ pub loop-candidate-init : goal.loop-candidate-init
 loop-candidate-init g c =
     let gives = c.into_iter-candidate-iterator.ensures.into_iter_gives in
     let items : into_iter_items c.into_iter-candidate-iterator.result ≡ c.args.self.now.waiting = gives.0 ∙ c.take_waiting-waiting.ensures.taken in
-    (rw items (telling_start _ _ _ _ _ c.take_waiting-waiting.ensures.left), search rules)
+    (rw items (telling_start _ _ _ _ _ c.take_waiting-waiting.ensures.left), search rules, refl)
 
 pub previous-requires : goal.previous-requires
 previous-requires g c = next_can _ _ _ _ _ _ _ _ _ (now g (goal.at.previous-requires g c).In-Some) c.requires.can
@@ -29,10 +29,12 @@ loop-candidate-preserved g c =
     let was = c.loop-candidate.invariant.1 in
     let short = ap length c.in-Some.ensures.steps.0 in
     let gone = c.in-Some.ensures.steps.1 in
-    (telling_step _ _ _ _ _ _ _ _ _ t c.in_ok-previous.previous c.offer.new.self c.in_ok-previous.ensures (c.in_ok-offer.ensures.kept (is_met (g.S.Suppressions.rule_met c.args.suppressions.now)) (ap is_some (sym c.rule_met-met.ensures))) c.in_ok-offer.ensures.counted, omega arith)
+    let rules_are = c.loop-candidate.invariant.2 in
+    let met = rw rules_are at c.in_ok-met.ensures.met in
+    (telling_step _ _ _ _ _ _ _ _ _ t c.in_ok-previous.previous c.offer.new.self c.in_ok-previous.ensures (c.in_ok-offer.ensures.kept (is_met (g.S.Suppressions.rule_met c.args.suppressions.now)) (ap is_some (sym met))) c.in_ok-offer.ensures.counted, omega arith, c.in_ok-met.ensures.rules ∙ rules_are)
 
-pub returns : goal.returns
-returns g c =
+pub returns-clause-told : goal.returns-clause-told
+returns-clause-told g c =
     let at = c.loop-candidate in
     let none = c.in-None.ensures.steps in
     let empty : into_iter_items at.candidate-iterator ≡ [] = nothing_left _ (sym at.invariant.1 ∙ none.0) in

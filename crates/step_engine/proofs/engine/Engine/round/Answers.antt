@@ -18,13 +18,13 @@ tell-requires-clause-room g c =
     offers_fit _ _ _ _ _ _ _ _ c.requires.ready c.requires.can t r a
 
 pub returns-then-end-clause-made : goal.returns-then-end-clause-made
-returns-then-end-clause-made g c = round-starved _ _ _ _ _ _ _ _ _ _ c.requires.can c.requires.some c.requires.ready c.in_ok-end.ensures c.in_ok-tell.ensures c.era-self.ensures _ c.if-end.true c.next_era.ensures
+returns-then-end-clause-made g c = round-starved _ _ _ _ _ _ _ _ _ _ c.requires.can c.requires.some c.requires.ready c.in_ok-end.ensures c.in_ok-tell.ensures.told c.era-self.ensures _ c.if-end.true c.next_era.ensures
 
 pub returns-then-end-clause-told : goal.returns-then-end-clause-told
-returns-then-end-clause-told g c = round_told _ _ _ _ _ _ _ _ _ _ c.requires.can c.requires.some c.requires.ready c.in_ok-end.ensures c.in_ok-tell.ensures c.era-self.ensures c.accepted.ensures c.requires.told
+returns-then-end-clause-told g c = round_told _ _ _ _ _ _ _ _ _ _ c.requires.can c.requires.some c.requires.ready c.in_ok-end.ensures c.in_ok-tell.ensures.told c.era-self.ensures c.accepted.ensures c.requires.told
 
 pub returns-else-end-clause-made : goal.returns-else-end-clause-made
-returns-else-end-clause-made g c = round-whole _ _ _ _ _ _ _ _ _ _ c.requires.can c.requires.some c.requires.ready c.in_ok-end.ensures c.in_ok-tell.ensures c.era-self.ensures c.if-end.false
+returns-else-end-clause-made g c = round-whole _ _ _ _ _ _ _ _ _ _ c.requires.can c.requires.some c.requires.ready c.in_ok-end.ensures c.in_ok-tell.ensures.told c.era-self.ensures c.if-end.false
 
 pub returns-else-end-clause-told : goal.returns-else-end-clause-told
-returns-else-end-clause-told g c = round_told _ _ _ _ _ _ _ _ _ _ c.requires.can c.requires.some c.requires.ready c.in_ok-end.ensures c.in_ok-tell.ensures c.era-self.ensures c.accepted.ensures c.requires.told
+returns-else-end-clause-told g c = round_told _ _ _ _ _ _ _ _ _ _ c.requires.can c.requires.some c.requires.ready c.in_ok-end.ensures c.in_ok-tell.ensures.told c.era-self.ensures c.accepted.ensures c.requires.told

@@ -14,7 +14,8 @@ invariant-rounds g l = record {
   turn : l.self.turn ≤ length l.plan;
   ready : IsReady l.image l.limits l.self;
   live : l.live.items ≡ live_of l.self.watched.machine;
-  told : Told (is_met (g.S.Suppressions.rule_met l.suppressions)) l.image l.limits l.self.entries l.self.reporter;
+  told : Told (is_met (g.S.Suppressions.rule_met l.fn.suppressions)) l.image l.limits l.self.entries l.self.reporter;
+  rules : l.suppressions ≡ l.fn.suppressions;
 }
 
 abbrev pub decreases-rounds : goal.decreases-rounds
