@@ -3,3 +3,4 @@ pub mod FileLaws
 pub mod LineLaws
 pub mod MeetLaws
 pub mod PatternLaws
+pub mod PartLaws

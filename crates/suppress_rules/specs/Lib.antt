@@ -1,4 +1,5 @@
 pub mod Patterns
 pub mod Pieces
+pub mod Texts
 pub mod RuleFile
 pub mod Stacks

@@ -13,6 +13,7 @@
 mod cut;
 mod fault;
 mod lines;
+mod parts;
 mod pattern;
 mod rule;
 mod rules;

@@ -6,6 +6,7 @@ ghost use Rattle.suppress_rules.specs.Stacks as stacks;
 
 use crate::fault::RuleFault;
 use crate::lines::{first_line, rule_in, trimmed};
+use crate::parts::Text;
 use crate::pattern::matches;
 use crate::rule::{Kind, Rule};
 use run_record::{Items, Places};
@@ -137,6 +138,7 @@ fn some_frame_matches<F: Frames>(pattern: &[u8], frames: &F, places: &[u64]) -> 
 {
     places.iter().any(|place| {
         let frame = frames.frame(*place);
-        matches(pattern, frame.name.as_bytes()) || matches(pattern, frame.file.as_bytes())
+        matches(pattern, Text::of_bytes(frame.name.as_bytes()))
+            || matches(pattern, Text::of_file(frame.file))
     })
 }
