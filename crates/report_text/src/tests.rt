@@ -9,7 +9,7 @@ use run_record::{
 };
 use std::alloc::{AllocError, Global};
 use std::test::Fail;
-use symbol_lines::{Frame, Frames, Unnamed};
+use symbol_lines::{FileText, Frame, Frames, Unnamed};
 
 fn places(alloc: Global, stack: &[u64]) -> Result<Places, AllocError> {
     let mut places = Places::new(alloc);
@@ -56,19 +56,22 @@ impl Frames for FewNames {
         if place < 0x10050 {
             Frame {
                 name: "main",
-                file: "src/a.c",
+                file: FileText {
+                    directory: Some("src"),
+                    name: "a.c",
+                },
                 line: u64::MAX,
             }
         } else if place < 0x10060 {
             Frame {
                 name: "a",
-                file: "",
+                file: FileText::of_name(""),
                 line: 7,
             }
         } else {
             Frame {
                 name: "",
-                file: "b.c",
+                file: FileText::of_name("b.c"),
                 line: 0,
             }
         }

@@ -1,10 +1,11 @@
 // What is written of a run.
 ghost use Rattle.std.specs.Prelude.{◌≡◌, ◌++◌, OnOk, IfOk, ℕ, string_bytes};
 ghost use Rattle.report_text.specs.Texts as texts;
+ghost use Rattle.symbol_lines.specs.FileTexts.{text_of as file_text};
 
 use run_record::{Finished, GuestEnd, KeptLock, NoMemory, Places, Report, Side};
 use std::alloc::{AllocError, Global};
-use symbol_lines::{Frame, Frames};
+use symbol_lines::{FileText, Frame, Frames};
 
 fn write_who(text: &mut String, tid: u32) -> Result<(), AllocError>
     ensures { OnOk result (string_bytes text.new ≡ string_bytes text.old ++ texts.who tid) }
@@ -62,6 +63,22 @@ fn write_locks(text: &mut String, locks: &[KeptLock]) -> Result<(), AllocError>
     text.push_str(")")
 }
 
+fn write_line(text: &mut String, file: FileText<'_>, line: u64) -> Result<(), AllocError>
+    ensures { OnOk result (string_bytes text.new ≡ string_bytes text.old ++ texts.line_text (file_text file.entry) line) }
+{
+    let name = file.name;
+    match file.directory {
+        Some(directory) => write!(text, "{directory}/{name}:{line}"),
+        None => {
+            if name.is_empty() {
+                text.push_str("??:0")
+            } else {
+                write!(text, "{name}:{line}")
+            }
+        }
+    }
+}
+
 fn write_frame(
     text: &mut String,
     number: usize,
@@ -69,18 +86,13 @@ fn write_frame(
     frame: Frame<'_>,
 ) -> Result<(), AllocError>
     ensures { OnOk result (string_bytes text.new ≡ string_bytes text.old
-        ++ texts.frame_line number place (record { name = frame.entry.name.now; file = frame.entry.file.now; line = frame.entry.line })) }
+        ++ texts.frame_line number place (record { name = frame.entry.name.now; file = file_text frame.entry.file; line = frame.entry.line })) }
 {
     let Frame { name, file, line } = frame;
     let name = if name.is_empty() { "??" } else { name };
-    if file.is_empty() {
-        write!(text, "    #{number} {name} ??:0 (0x{place:016x})\n")
-    } else {
-        write!(
-            text,
-            "    #{number} {name} {file}:{line} (0x{place:016x})\n"
-        )
-    }
+    write!(text, "    #{number} {name} ")?;
+    write_line(text, file, line)?;
+    write!(text, " (0x{place:016x})\n")
 }
 
 fn write_stack<F: Frames>(

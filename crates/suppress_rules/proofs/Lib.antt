@@ -4,3 +4,4 @@ pub mod LineLaws
 pub mod MeetLaws
 pub mod PatternLaws
 pub mod FrameLaws
+pub mod PartLaws

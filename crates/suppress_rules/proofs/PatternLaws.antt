@@ -1,12 +1,14 @@
 -- A piece that is taken at its first place leaves the most for what follows.
-use Rattle.std.proofs.Common.{◌≡◌, ℕ, ◌-◌, ◌==◌, ◌&&◌, ◌||◌, Bool, true, false, cond, List, [], ◌∷◌, ◌++◌, length, drop, Option, Some, None, is_some, refl, sym, ap, ◌∙◌, inl, inr, arith, length-drop, suc, zero, Bor, option_copied}
-use Rattle.std.proofs.lemmas.Bool.{and_parts, or_cases, or_right, cases_lt, false_from_ne_true, ne_eqb}
+use Rattle.std.proofs.Common.{◌≡◌, ℕ, ◌-◌, ◌==◌, ◌&&◌, ◌||◌, Bool, true, false, cond, List, [], ◌∷◌, ◌++◌, length, drop, Option, Some, None, is_some, refl, sym, ap, ◌∙◌, inl, inr, arith, length-drop, suc, zero, not, option_map}
+use Rattle.std.proofs.lemmas.Bool.{cases_Bool, and_parts, or_cases, or_right, cases_lt, false_from_ne_true, ne_eqb}
 use Rattle.std.proofs.lemmas.List.Elements.{All-head, All-tail}
 use Rattle.std.proofs.lemmas.Slice.Eq.{bytes_eq-Decides}
 use Rattle.std.specs.List.{starts_with, ends_with}
 use Rattle.std.specs.Str.{bytes_eq}
 use Rattle.suppress_rules.specs.Patterns.{some_end, matches_body}
 use Rattle.suppress_rules.specs.Pieces.{after_piece}
+use Rattle.suppress_rules.specs.Texts.{text_view, behind, ends_there}
+use Rattle.suppress_rules.specs.declared.parts.Text.{Text}
 use Rattle.suppress_rules.proofs.CutLaws.{Lacks}
 
 -- no byte of the piece is a star
@@ -153,25 +155,66 @@ pub no_piece : (bound : Bool) (pattern text piece rest : List ℕ) → pattern �
 no_piece bound pattern text piece rest cut p missing =
     ap (then_some_end (matches_body bound rest)) missing ∙ sym (first_place bound piece rest text p) ∙ ap (λ q. some_end (matches_body bound q) text) (sym cut)
 
--- what the code answers where there is a star
-pub before_star : (bound : Bool) (pattern text piece rest : List ℕ) → pattern ≡ piece ++ 42 ∷ rest → IsPiece piece →
-    (starts_with ◌==◌ text piece && some_end (matches_body bound rest) (drop (length piece) text)) ≡ matches_body bound pattern text
-before_star bound pattern text piece rest cut p = sym (piece_then bound piece rest text p) ∙ ap (λ q. matches_body bound q text) (sym cut)
+-- ---- what the code answers
 
--- the search for a piece
-pub piece_later : (piece text : List ℕ) → starts_with ◌==◌ text piece ≡ false → after_piece piece (drop 1 text) ≡ after_piece piece text
-piece_later piece [] e = refl
-piece_later piece (c ∷ text) e = rw e refl
+at_here : (s : Bool) (test : List ℕ → Bool) (left : List ℕ) → (s && some_end test left) ≡ then_some_end test (cond s (Some left) None)
+at_here true test left = refl
+at_here false test left = refl
 
-pub piece_nowhere : (piece text : List ℕ) → starts_with ◌==◌ text piece ≡ false → length text ≡ 0 → None ≡ after_piece piece text
-piece_nowhere piece [] e h = rw e refl
-piece_nowhere piece (c ∷ text) e h = absurd (omega arith)
+piece_behind : (bound : Bool) (piece rest text : List ℕ) → IsPiece piece → matches_body bound (piece ++ 42 ∷ rest) text ≡ then_some_end (matches_body bound rest) (behind piece text)
+piece_behind bound piece rest text p = piece_then bound piece rest text p ∙ at_here (starts_with ◌==◌ text piece) (matches_body bound rest) (drop (length piece) text)
 
-pub piece_here : (piece text : List ℕ) → starts_with ◌==◌ text piece ≡ true → Some (drop (length piece) text) ≡ after_piece piece text
+-- where there is a star
+pub star_found : (bound : Bool) (pattern text piece rest after : List ℕ) → pattern ≡ piece ++ 42 ∷ rest → IsPiece piece → Some after ≡ behind piece text →
+    some_end (matches_body bound rest) after ≡ matches_body bound pattern text
+star_found bound pattern text piece rest after cut p found =
+    ap (then_some_end (matches_body bound rest)) found ∙ sym (piece_behind bound piece rest text p) ∙ ap (λ q. matches_body bound q text) (sym cut)
+
+pub star_missing : (bound : Bool) (pattern text piece rest : List ℕ) → pattern ≡ piece ++ 42 ∷ rest → IsPiece piece → None ≡ behind piece text →
+    false ≡ matches_body bound pattern text
+star_missing bound pattern text piece rest cut p missing =
+    ap (then_some_end (matches_body bound rest)) missing ∙ sym (piece_behind bound piece rest text p) ∙ ap (λ q. matches_body bound q text) (sym cut)
+
+-- where there is none
+last_behind : (bound : Bool) (piece text : List ℕ) → IsPiece piece → matches_body bound piece text ≡ ends_there bound (behind piece text)
+last_behind bound [] text h = refl
+last_behind bound (b ∷ piece) [] h = let e : (b == 42) ≡ false = All-head (λ x. (x == 42) ≡ false) b piece h in rw e refl
+last_behind bound (b ∷ piece) (c ∷ text) h =
+    let e : (b == 42) ≡ false = All-head (λ x. (x == 42) ≡ false) b piece h in
+    rw e (one (b == c) (starts_with ◌==◌ text piece) (drop (length piece) text) (last_behind bound piece text (All-tail (λ x. (x == 42) ≡ false) b piece h)))
+  where
+    one : (s t : Bool) (left : List ℕ) {m : Bool} → m ≡ ends_there bound (cond t (Some left) None) → (s && m) ≡ ends_there bound (cond (s && t) (Some left) None)
+    one true t left e = e
+    one false t left e = refl
+
+pub last_found : (bound : Bool) (pattern text after : List ℕ) → IsPiece pattern → Some after ≡ behind pattern text → (not bound || (length after == 0)) ≡ matches_body bound pattern text
+last_found bound pattern text after p found = ap (ends_there bound) found ∙ sym (last_behind bound pattern text p)
+
+pub open_is : (bound left : Bool) → bound ≡ false → not bound ≡ (not bound || left)
+open_is true left h = absurd (cc)
+open_is false left h = refl
+
+pub bound_is : (bound left : Bool) → bound ≡ true → left ≡ (not bound || left)
+bound_is true left h = refl
+bound_is false left h = absurd (cc)
+
+pub last_missing : (bound : Bool) (pattern text : List ℕ) → IsPiece pattern → None ≡ behind pattern text → false ≡ matches_body bound pattern text
+last_missing bound pattern text p missing = ap (ends_there bound) missing ∙ sym (last_behind bound pattern text p)
+
+-- ---- the search for a piece
+
+piece_here : (piece text : List ℕ) → starts_with ◌==◌ text piece ≡ true → Some (drop (length piece) text) ≡ after_piece piece text
 piece_here piece [] e = rw e (ap Some (drop-nil (length piece)))
 piece_here piece (c ∷ text) e = rw e refl
 
+pub piece_found : (piece text after : List ℕ) → Some after ≡ behind piece text → Some after ≡ after_piece piece text
+piece_found piece text after h =
+    elim (cases_Bool (starts_with ◌==◌ text piece)) [
+      | inl here ↦ (rw here at h) ∙ piece_here piece text here
+      | inr away ↦ absurd (let e = rw away at h in cc)
+    ]
+
 -- that a piece was found doesn't depend on what follows it
-pub found : (o : Option (Bor (List ℕ))) → is_some o ≡ is_some (option_copied o)
+pub found : (o : Option Text) → is_some o ≡ is_some (option_map text_view o)
 found None = refl
 found (Some x) = refl

@@ -2,6 +2,7 @@
 use Rattle.std.specs.Prelude.{ℕ, ◌&&◌, ◌||◌, Bool, true, false, List, [], ◌∷◌}
 use Rattle.std.specs.List.{list_any}
 use Rattle.symbol_lines.specs.FrameTexts.{FrameText}
+use Rattle.symbol_lines.specs.FileTexts.{text_of}
 use Rattle.symbol_lines.specs.declared.frames.Frame.{Frame}
 use Rattle.suppress_rules.specs.declared.rule.Kind.{Kind}
 use Rattle.suppress_rules.specs.declared.rule.Kind.TheVariants.{Race, RaceTop, NeverMet}
@@ -10,7 +11,7 @@ use Rattle.suppress_rules.specs.Stacks.{frame_matches}
 
 -- what a frame tells
 abbrev pub told_by : Frame → FrameText
-told_by frame = record { name = frame.name.now; file = frame.file.now; line = frame.line }
+told_by frame = record { name = frame.name.now; file = text_of frame.file; line = frame.line }
 
 -- whether a rule of this kind looks at a frame, which is its stack's first one or not
 abbrev pub looks_at : Kind → Bool → Bool

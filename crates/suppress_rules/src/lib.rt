@@ -15,6 +15,7 @@
 mod cut;
 mod fault;
 mod lines;
+mod parts;
 mod pattern;
 mod rule;
 mod rules;

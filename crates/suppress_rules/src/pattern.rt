@@ -1,14 +1,16 @@
 // Patterns, and the texts that they match.
-ghost use Rattle.std.specs.Prelude.{◌≡◌, option_copied};
+ghost use Rattle.std.specs.Prelude.{◌≡◌, option_map};
 ghost use Rattle.suppress_rules.specs.Patterns as patterns;
 ghost use Rattle.suppress_rules.specs.Pieces as pieces;
+ghost use Rattle.suppress_rules.specs.Texts.{text_view};
 
 use crate::cut::cut_at;
+use crate::parts::{Text, behind, first_and_rest, text_ends_with};
 
 /// Whether the pattern matches the text. It compares at most as many bytes as the pattern's length times the text's and one
 /// more.
-pub fn matches(pattern: &[u8], text: &[u8]) -> bool
-    ensures { result ≡ patterns.matches pattern.now text.now }
+pub fn matches(pattern: &[u8], text: Text<'_>) -> bool
+    ensures { result ≡ patterns.matches pattern.now (text_view text.entry) }
 {
     if text.is_empty() {
         false
@@ -20,8 +22,8 @@ pub fn matches(pattern: &[u8], text: &[u8]) -> bool
 }
 
 // Whether the text begins with what the pattern describes.
-fn matches_here(pattern: &[u8], text: &[u8]) -> bool
-    ensures { result ≡ patterns.matches_here pattern.now text.now }
+fn matches_here(pattern: &[u8], text: Text<'_>) -> bool
+    ensures { result ≡ patterns.matches_here pattern.now (text_view text.entry) }
 {
     if pattern.ends_with(b"$") {
         matches_body(true, &pattern[..pattern.len() - 1], text)
@@ -31,8 +33,8 @@ fn matches_here(pattern: &[u8], text: &[u8]) -> bool
 }
 
 // Whether some end of the text begins with what the pattern describes.
-fn matches_somewhere(pattern: &[u8], text: &[u8]) -> bool
-    ensures { result ≡ patterns.some_end (patterns.matches_here pattern.now) text.now }
+fn matches_somewhere(pattern: &[u8], text: Text<'_>) -> bool
+    ensures { result ≡ patterns.some_end (patterns.matches_here pattern.now) (text_view text.entry) }
 {
     if pattern.ends_with(b"$") {
         matches_body_somewhere(true, &pattern[..pattern.len() - 1], text)
@@ -42,22 +44,29 @@ fn matches_somewhere(pattern: &[u8], text: &[u8]) -> bool
 }
 
 // Whether the text begins with what the pattern describes, and ends there where its end is bound.
-fn matches_body(bound: bool, pattern: &[u8], text: &[u8]) -> bool
-    ensures { result ≡ patterns.matches_body bound pattern.now text.now }
+fn matches_body(bound: bool, pattern: &[u8], text: Text<'_>) -> bool
+    ensures { result ≡ patterns.matches_body bound pattern.now (text_view text.entry) }
 {
     match cut_at(pattern, b'*') {
         Some((piece, rest)) => {
-            text.starts_with(piece) && matches_body_somewhere(bound, rest, &text[piece.len()..])
+            match behind(text, piece) {
+                Some(after) => matches_body_somewhere(bound, rest, after),
+                None => false,
+            }
         }
-        None if bound => pattern == text,
-        None => text.starts_with(pattern),
+        None => {
+            match behind(text, pattern) {
+                Some(after) => !bound || after.is_empty(),
+                None => false,
+            }
+        }
     }
 }
 
 // The same of some end of the text. A piece between two stars is taken at the first place where it stands: the star after it
 // stands for all that a later place would leave out.
-fn matches_body_somewhere(bound: bool, pattern: &[u8], text: &[u8]) -> bool
-    ensures { result ≡ patterns.some_end (patterns.matches_body bound pattern.now) text.now }
+fn matches_body_somewhere(bound: bool, pattern: &[u8], text: Text<'_>) -> bool
+    ensures { result ≡ patterns.some_end (patterns.matches_body bound pattern.now) (text_view text.entry) }
 {
     let mut pattern = pattern;
     let mut text = text;
@@ -69,22 +78,24 @@ fn matches_body_somewhere(bound: bool, pattern: &[u8], text: &[u8]) -> bool
         pattern = rest;
     }
     if bound {
-        text.ends_with(pattern)
+        text_ends_with(text, pattern)
     } else {
         after_piece(pattern, text).is_some()
     }
 }
 
 // What stands after the first place of the piece in the text.
-fn after_piece<'a>(piece: &[u8], text: &'a [u8]) -> Option<&'a [u8]>
-    ensures { option_copied result ≡ pieces.after_piece piece.now text.now }
+fn after_piece<'a>(piece: &[u8], text: Text<'a>) -> Option<Text<'a>>
+    ensures { option_map text_view result ≡ pieces.after_piece piece.now (text_view text.entry) }
 {
     let mut rest = text;
-    while !rest.starts_with(piece) {
-        if rest.is_empty() {
-            return None;
+    loop {
+        if let Some(after) = behind(rest, piece) {
+            return Some(after);
         }
-        rest = &rest[1..];
+        rest = match first_and_rest(rest) {
+            Some((_, next)) => next,
+            None => return None,
+        };
     }
-    Some(&rest[piece.len()..])
 }

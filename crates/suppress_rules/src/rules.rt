@@ -7,6 +7,7 @@ ghost use Rattle.suppress_rules.specs.Stacks as stacks;
 
 use crate::fault::RuleFault;
 use crate::lines::{first_line, rule_in, trimmed};
+use crate::parts::Text;
 use crate::pattern::matches;
 use crate::rule::{Kind, Rule};
 use run_record::{Items, Places};
@@ -167,5 +168,6 @@ fn is_met(rule: &Rule, first: bool, frame: Frame<'_>) -> bool
 fn some_text_matches(pattern: &[u8], frame: Frame<'_>) -> bool
     ensures { result ≡ stacks.frame_matches pattern.now (tests.told_by frame.entry) }
 {
-    matches(pattern, frame.name.as_bytes()) || matches(pattern, frame.file.as_bytes())
+    matches(pattern, Text::of_bytes(frame.name.as_bytes()))
+        || matches(pattern, Text::of_file(frame.file))
 }

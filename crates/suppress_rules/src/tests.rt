@@ -1,15 +1,16 @@
 // Tables of patterns and of files.
+use crate::parts::Text;
 use crate::pattern::matches;
 use crate::{RuleFault, Rules, first_met};
 use run_record::{Items, Places};
 use std::alloc::{AllocError, Global};
 use std::process::Abort;
 use std::test::Fail;
-use symbol_lines::{Frame, Frames};
+use symbol_lines::{FileText, Frame, Frames};
 
 fn check_matches(rt: &impl Abort, pattern: &str, texts: &[(&str, bool)]) {
     for (text, wanted) in texts {
-        let found = matches(pattern.as_bytes(), text.as_bytes());
+        let found = matches(pattern.as_bytes(), Text::of_bytes(text.as_bytes()));
         assert!(rt; found == *wanted, "{pattern} {text}");
     }
 }
@@ -113,7 +114,7 @@ impl Frames for FourPlaces {
         let file = if place == 2 { "foo.c" } else { "" };
         Frame {
             name,
-            file,
+            file: FileText::of_name(file),
             line: 0,
         }
     }

@@ -9,7 +9,7 @@ use Rattle.symbol_lines.specs.declared.spans.Span.{Span}
 use Rattle.symbol_lines.specs.declared.rows.Row.{Row}
 use Rattle.symbol_lines.specs.Spans.{better, owner_among}
 use Rattle.symbol_lines.specs.Kept.{KeptSequence}
-use Rattle.symbol_lines.specs.Lines.{Lines, unknown, has_place, known, row_at, row_from, position_in, position_of, position_at}
+use Rattle.symbol_lines.specs.Lines.{Lines, Position, unknown, has_place, known, row_at, row_from, position_in, position_of, position_at}
 use Rattle.symbol_lines.specs.KeptLines.{kept_lines, resolved, numbered, text_or_none}
 use Rattle.symbol_lines.proofs.KeptRows.{row_at-kept, row_at-push, row_from-append}
 
@@ -186,3 +186,6 @@ empty_position line o b e h = let t : eqb (length (text_or_none o)) 0 ≡ true =
 
 pub full_position : (line : ℕ) (o : Option (List ℕ)) (b : Bool) → b ≡ eqb (length (text_or_none o)) 0 → b ≡ false → record { file = text_or_none o; line = line } ≡ known line o
 full_position line o b e h = let t : eqb (length (text_or_none o)) 0 ≡ false = sym e ∙ h in sym (known_is line o ∙ rw t refl)
+
+pub nothing_known : (text : List ℕ) (p : Position) → text ≡ [] → unknown ≡ p → record { file = text; line = 0 } ≡ p
+nothing_known text p e h = rw e h

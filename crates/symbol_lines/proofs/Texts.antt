@@ -1,6 +1,6 @@
 -- A text and the place of the zero byte that ends it.
-use Rattle.std.proofs.Common.{◌≡◌, ℕ, suc, ◌+◌, ◌-◌, ◌≤◌, false, eqb, ltb, List, [], ◌∷◌, length, take, drop, Some, None, refl, sym, ◌∙◌, inl, inr, arith}
-use Rattle.std.specs.Prelude.{position}
+use Rattle.std.proofs.Common.{◌≡◌, ℕ, suc, ◌+◌, ◌-◌, ◌≤◌, true, false, if◌then◌else◌, eqb, ltb, List, [], ◌∷◌, length, take, drop, Some, None, refl, sym, ◌∙◌, inl, inr, arith}
+use Rattle.std.specs.Prelude.{position, unwrap_or}
 use Rattle.std.specs.List.{position_from, list_any}
 use Rattle.std.specs.Str.{IsUtf8, is_utf8}
 use Rattle.std.proofs.lemmas.Bool.{cases_Bool}
@@ -8,7 +8,8 @@ use Rattle.std.proofs.lemmas.List.{take_all, length-drop}
 use Rattle.std.proofs.lemmas.Str.{IsUtf8-from_is_utf8, is_utf8-from_IsUtf8}
 use Rattle.std.proofs.lemmas.Iterator.Adapters.{position_from-zero}
 use Rattle.symbol_lines.specs.Reading.{text_at}
-use Rattle.symbol_lines.specs.Lines.{shown}
+use Rattle.symbol_lines.specs.Lines.{is_shown, shown}
+use Rattle.symbol_lines.specs.KeptLines.{shown_or_none}
 
 -- the bytes are whole behind a place
 pub rest_is : (bs : List ℕ) (k : ℕ) → take (length bs - k) (drop k bs) ≡ drop k bs
@@ -47,12 +48,16 @@ pub text_missing : (bs : List ℕ) → None ≡ position (λ b. eqb b 0) bs → 
 text_missing bs h = text_none bs 0 (sym (position_from-zero (λ b. eqb b 0) bs) ∙ sym h)
 
 -- texts that can be shown
-pub shown_is : (bs : List ℕ) → list_any (λ b. ltb b 0x20) bs ≡ false → IsUtf8 bs → shown bs ≡ bs
+pub shown_is : (bs : List ℕ) → list_any (λ b. ltb b 0x20) bs ≡ false → IsUtf8 bs → shown_or_none bs ≡ Some bs
 shown_is bs high utf8 = rw (high, is_utf8-from_IsUtf8 bs utf8) refl
 
-pub shown_none : (bs : List ℕ) → list_any (λ b. ltb b 0x20) bs ≡ false → ¬ (IsUtf8 bs) → shown bs ≡ []
+pub shown_none : (bs : List ℕ) → list_any (λ b. ltb b 0x20) bs ≡ false → ¬ (IsUtf8 bs) → shown_or_none bs ≡ None
 shown_none bs high bad =
     elim (cases_Bool (is_utf8 bs)) [
       | inl utf8 ↦ absurd (bad (IsUtf8-from_is_utf8 bs utf8))
       | inr not_utf8 ↦ rw (high, not_utf8) refl
     ]
+
+pub shown_from : (text : List ℕ) → unwrap_or (shown_or_none text) [] ≡ shown text
+shown_from text =
+    elim (is_shown text) as (λ s. unwrap_or (if s then Some text else None) [] ≡ (if s then text else [])) [ true ↦ refl | false ↦ refl ]

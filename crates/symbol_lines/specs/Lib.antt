@@ -1,4 +1,5 @@
 pub mod FrameTexts
+pub mod FileTexts
 pub mod Spans
 pub mod Reading
 pub mod Program

@@ -1,11 +1,39 @@
 // What code places are called.
-ghost use Rattle.std.specs.Prelude.{◌≡◌, [], ℕ};
+ghost use Rattle.std.specs.Prelude.{◌≡◌, ◌==◌, [], ℕ, length};
+ghost use Rattle.symbol_lines.specs.FileTexts.{text_of};
+
+/// The text of a file, in parts of the executable: it is the name alone, or the directory, '/' and the name. Contracts see
+/// the text as `text_of`.
+#[derive(Clone, Copy)]
+pub struct FileText<'a> {
+    pub directory: Option<&'a str>,
+    pub name: &'a str,
+}
+
+impl<'a> FileText<'a> {
+    /// A name alone.
+    pub fn of_name(name: &'a str) -> FileText<'a>
+        ensures { text_of result ≡ name.now }
+    {
+        FileText {
+            directory: None,
+            name,
+        }
+    }
+
+    /// The text has no bytes.
+    pub fn is_empty(&self) -> bool
+        ensures { result ≡ (length (text_of self.now) == 0) }
+    {
+        self.directory.is_none() && self.name.is_empty()
+    }
+}
 
 /// The function, the file and the line of a place: empty texts and 0 where they are not known.
 #[derive(Clone, Copy)]
 pub struct Frame<'a> {
     pub name: &'a str,
-    pub file: &'a str,
+    pub file: FileText<'a>,
     pub line: u64,
 }
 
@@ -18,7 +46,7 @@ pub trait Frames {
     /// What is known of a place. It takes no memory.
     fn frame(&self, place: u64) -> Frame<'_>
         ensures name { result.name.now ≡ (frame_of self.now place).name }
-        ensures file { result.file.now ≡ (frame_of self.now place).file }
+        ensures file { text_of result.file ≡ (frame_of self.now place).file }
         ensures line { result.line ≡ (frame_of self.now place).line };
 }
 
@@ -32,7 +60,7 @@ impl Frames for Unnamed {
     fn frame(&self, _place: u64) -> Frame<'_> {
         Frame {
             name: "",
-            file: "",
+            file: FileText::of_name(""),
             line: 0,
         }
     }

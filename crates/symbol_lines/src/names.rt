@@ -1,7 +1,7 @@
 // Names of code places.
 ghost use Rattle.std.specs.Prelude.{◌≡◌, IfOk};
 
-use crate::frames::{Frame, Frames};
+use crate::frames::{FileText, Frame, Frames};
 use crate::machine::Sequence;
 use crate::positions::find_position;
 use crate::sequences::{AllLines, read_lines, sequence_spans};
@@ -21,7 +21,7 @@ pub struct Names<'a> {
     functions: Vec<Step>,
     places: Vec<Step>,
     sequences: Vec<Sequence>,
-    units: Vec<Vec<String>>,
+    units: Vec<Vec<FileText<'a>>>,
 }
 
 impl<'a> Model for Names<'a> {
@@ -41,8 +41,8 @@ impl<'a> Model for Names<'a> {
 impl<'a> Names<'a> {
     ghost use Rattle.symbol_lines.specs.Frames.{tables_of};
 
-    /// The names of an executable's code places. It takes memory in proportion to the tables, and at most 256 MiB for
-    /// the texts of files that are put together from a directory and a name.
+    /// The names of an executable's code places. It takes memory in proportion to the tables: texts stay parts of the
+    /// executable.
     pub fn read(alloc: Global, image: &Image<'a>) -> Result<Names<'a>, NoMemory>
         ensures { IfOk result (λ names. names ≡ tables_of image.now) }
     {
@@ -100,7 +100,7 @@ impl Names<'_> {
     }
 
     // The file and the line of a place.
-    fn position(&self, place: u64) -> (&str, u64)
+    fn position(&self, place: u64) -> (FileText<'_>, u64)
         ensures { position_view result ≡ position_at (sequences self.now.lines) place }
     {
         find_position(

@@ -1,118 +1,32 @@
 // The sequences of all line units, and the texts of their files.
-ghost use Rattle.std.specs.Prelude.{◌≡◌, ◌==◌, map, slice_index, IfOk, []};
+ghost use Rattle.std.specs.Prelude.{◌≡◌, map, IfOk, []};
 ghost use Rattle.std.specs.Option.{option_map};
-ghost use Rattle.std.specs.String.{string_bytes};
 ghost use Rattle.symbol_lines.specs.Program.{unit_at};
-ghost use Rattle.symbol_lines.specs.Lines.{path_of, shown_path, lines_of, next_unit, sequences};
+ghost use Rattle.symbol_lines.specs.Lines.{lines_of, next_unit, sequences};
 ghost use Rattle.symbol_lines.specs.KeptLines.{kept_lines, with_texts, resolved, texts_view, UnitsAre, numbered};
-ghost use Rattle.symbol_lines.specs.Views.{entry_view};
 ghost use Rattle.symbol_lines.specs.MachineViews.{sequence_view};
 
+use crate::frames::FileText;
 use crate::machine::{Machine, Sequence};
-use crate::program::{FileEntry, Unit};
+use crate::paths::{shown_directories, texts_of};
+use crate::program::Unit;
 use crate::reading::{bytes_of, long_of, word_of};
 use crate::spans::Span;
-use crate::symbols::shown;
 use crate::units::{run, unit_of};
-use run_record::NoMemory;
 use std::alloc::{AllocError, Global};
 
 /// The sequences of a unit, and the texts of its files.
 #[derive(Drop)]
-pub struct UnitLines {
+pub struct UnitLines<'a> {
     pub sequences: Vec<Sequence>,
-    pub files: Vec<String>,
+    pub files: Vec<FileText<'a>>,
 }
 
 /// The sequences of all units in reading order, and each unit's texts.
 #[derive(Drop)]
-pub struct AllLines {
+pub struct AllLines<'a> {
     pub sequences: Vec<Sequence>,
-    pub units: Vec<Vec<String>>,
-}
-
-// At most so many bytes of texts are put together; more are want of memory. So many directories may stand before so
-// many files that their texts would take far more than the file.
-const TEXT_LIMIT: u64 = 1 << 28;
-
-fn take_room(room: &mut u64, len: usize) -> Result<(), NoMemory> {
-    if len as u64 > *room {
-        return Err(NoMemory);
-    }
-    *room -= len as u64;
-    Ok(())
-}
-
-fn begins_with_slash(name: &[u8]) -> bool
-    ensures { result ≡ (slice_index name.now 0 == 47) }
-{
-    match name {
-        [] => false,
-        [first, ..] => *first == b'/',
-    }
-}
-
-/// A file's path: its name alone where it is in directory 0 or begins with '/', and else behind its directory. None
-/// where there is no such directory.
-fn path_bytes(
-    alloc: Global,
-    directories: &[&[u8]],
-    file: FileEntry<'_>,
-    room: &mut u64,
-) -> Result<Option<Vec<u8>>, NoMemory>
-    ensures { IfOk result (λ o. option_map (λ v. v.items) o ≡ path_of (map (λ d. d.now) directories.now) (entry_view file.entry)) }
-{
-    let mut path = Vec::new(alloc);
-    if file.directory == 0 || begins_with_slash(file.name) {
-        take_room(room, file.name.len())?;
-        path.extend_from_slice(file.name)?;
-        return Ok(Some(path));
-    }
-    let index = file.directory - 1;
-    if index >= directories.len() as u64 {
-        return Ok(None);
-    }
-    let directory = directories[index as usize];
-    take_room(room, directory.len())?;
-    path.extend_from_slice(directory)?;
-    path.push(b'/')?;
-    take_room(room, file.name.len())?;
-    path.extend_from_slice(file.name)?;
-    Ok(Some(path))
-}
-
-/// A file's text, and none where it has no path or can't be shown.
-fn file_text(
-    alloc: Global,
-    directories: &[&[u8]],
-    file: FileEntry<'_>,
-    room: &mut u64,
-) -> Result<String, NoMemory>
-    ensures { IfOk result (λ t. string_bytes t ≡ shown_path (path_of (map (λ d. d.now) directories.now) (entry_view file.entry))) }
-{
-    match path_bytes(alloc, directories, file, room)? {
-        Some(path) => {
-            let text = String::from_str(alloc, shown(path.as_slice()))?;
-            Ok(text)
-        }
-        None => Ok(String::new(alloc)),
-    }
-}
-
-fn texts_of(
-    alloc: Global,
-    directories: &[&[u8]],
-    files: &[FileEntry<'_>],
-    room: &mut u64,
-) -> Result<Vec<String>, NoMemory>
-    ensures { IfOk result (λ v. texts_view v ≡ map (λ f. shown_path (path_of (map (λ d. d.now) directories.now) f)) (map entry_view files.now)) }
-{
-    let mut texts = Vec::new(alloc);
-    for file in files {
-        let text = file_text(alloc, directories, *file, room)?;
-        texts.push(text)?;
-    }
-    Ok(texts)
+    pub units: Vec<Vec<FileText<'a>>>,
 }
 
 /// The bytes of the next unit behind its length, and the bytes after it.
@@ -133,12 +47,7 @@ fn next_unit(bytes: &[u8]) -> Option<(&[u8], &[u8])>
 }
 
 /// The sequences of the unit of this number, none where it is malformed or of another version.
-fn read_unit(
-    alloc: Global,
-    bytes: &[u8],
-    number: usize,
-    room: &mut u64,
-) -> Result<UnitLines, NoMemory>
+fn read_unit(alloc: Global, bytes: &[u8], number: usize) -> Result<UnitLines<'_>, AllocError>
     ensures lines { IfOk result (λ u. map (with_texts (texts_view u.files)) (map sequence_view u.sequences.items) ≡ map kept_lines (lines_of (unit_at bytes.now))) }
     ensures units { IfOk result (λ u. UnitsAre number (map sequence_view u.sequences.items)) }
 {
@@ -166,17 +75,13 @@ fn read_unit(
         Some(machine) => machine,
         None => return Ok(no_lines(alloc)),
     };
-    let files = texts_of(
-        alloc,
-        directories.as_slice(),
-        machine.files.as_slice(),
-        room,
-    )?;
+    let shown = shown_directories(alloc, directories.as_slice())?;
+    let files = texts_of(alloc, shown.as_slice(), machine.files.as_slice())?;
     let sequences = std::mem::replace(&mut machine.sequences, Vec::new(alloc));
     Ok(UnitLines { sequences, files })
 }
 
-fn no_lines(alloc: Global) -> UnitLines
+fn no_lines<'a>(alloc: Global) -> UnitLines<'a>
     ensures { result.sequences.items ≡ [] }
 {
     UnitLines {
@@ -187,12 +92,11 @@ fn no_lines(alloc: Global) -> UnitLines
 
 /// The sequences of a section of line units.
 #[tactic(auto, unfolding(crate::specs::Lines::sequences))]
-pub fn read_lines(alloc: Global, section: &[u8]) -> Result<AllLines, NoMemory>
+pub fn read_lines(alloc: Global, section: &[u8]) -> Result<AllLines<'_>, AllocError>
     ensures { IfOk result (λ x. map (resolved (map texts_view x.units.items)) (map sequence_view x.sequences.items) ≡ map kept_lines (sequences section.now)) }
 {
     let mut found = Vec::new(alloc);
     let mut units = Vec::new(alloc);
-    let mut room = TEXT_LIMIT;
     let mut rest = section;
     for _ in 0..section.len() {
         let (unit, after) = match next_unit(rest) {
@@ -207,7 +111,7 @@ pub fn read_lines(alloc: Global, section: &[u8]) -> Result<AllLines, NoMemory>
         let UnitLines {
             mut sequences,
             files,
-        } = read_unit(alloc, unit, units.len(), &mut room)?;
+        } = read_unit(alloc, unit, units.len())?;
         found.append(&mut sequences)?;
         units.push(files)?;
         rest = after;

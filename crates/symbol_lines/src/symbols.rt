@@ -1,9 +1,10 @@
 // Functions of a symbol table, and their names.
 ghost use Rattle.std.specs.Prelude.{◌≡◌, ◌+◌, ◌*◌, ◌/◌, ◌<◌, ◌≤◌, length, map, nat_lt, IfOk};
 ghost use Rattle.std.specs.List.{list_any};
+ghost use Rattle.std.specs.Option.{option_map};
 ghost use Rattle.symbol_lines.specs.Symbols as symbols;
 ghost use Rattle.symbol_lines.specs.Kept.{function_span};
-ghost use Rattle.symbol_lines.specs.Lines.{shown};
+ghost use Rattle.symbol_lines.specs.KeptLines.{shown_or_none};
 
 use crate::reading::text_of;
 use crate::spans::Span;
@@ -36,16 +37,16 @@ pub fn function_spans(alloc: Global, table: &[u8]) -> Result<Vec<Span>, AllocErr
     Ok(spans)
 }
 
-/// The bytes as a text that can be shown, and none where they are no UTF-8 or a byte is below 0x20.
-pub fn shown(bytes: &[u8]) -> &str
-    ensures { result.now ≡ shown bytes.now }
+/// The bytes as a text that can be shown, if they are UTF-8 and no byte is below 0x20.
+pub fn shown_or_none(bytes: &[u8]) -> Option<&str>
+    ensures { option_map (λ t. t.now) result ≡ shown_or_none bytes.now }
 {
     if has_low_byte(bytes) {
-        return "";
+        return None;
     }
     match std::str::from_utf8(bytes) {
-        Ok(text) => text,
-        Err(_) => "",
+        Ok(text) => Some(text),
+        Err(_) => None,
     }
 }
 
@@ -63,7 +64,7 @@ pub fn name_at(strings: &[u8], at: usize) -> &str
         return "";
     }
     match text_of(&strings[at..]) {
-        Some((text, _)) => shown(text),
+        Some((text, _)) => shown_or_none(text).unwrap_or(""),
         None => "",
     }
 }

@@ -1,5 +1,5 @@
 // Files made by hand, and the frames of their places.
-use crate::{Frames, Names};
+use crate::{FileText, Frames, Names};
 use elf_image::load;
 use std::alloc::{AllocError, Global};
 use std::test::Fail;
@@ -137,6 +137,16 @@ fn names_functions(rt: HostRuntime) -> Result<(), Fail> {
     Ok(())
 }
 
+fn is_text(file: FileText<'_>, text: &str) -> bool {
+    match file.directory {
+        None => file.name == text,
+        Some(directory) => {
+            let rest = text.strip_prefix(directory).unwrap_or("");
+            rest.strip_prefix("/") == Some(file.name)
+        }
+    }
+}
+
 fn frame_is(
     alloc: Global,
     lines: &[u8],
@@ -148,7 +158,7 @@ fn frame_is(
     let names = Names::read(alloc, &image)?;
     let frame = names.frame(place);
     let (name, text, line) = expected;
-    Ok(frame.name == name && frame.file == text && frame.line == line)
+    Ok(frame.name == name && is_text(frame.file, text) && frame.line == line)
 }
 
 #[test]
@@ -185,8 +195,11 @@ fn reads_changed_tables(rt: HostRuntime) -> Result<(), Fail> {
         (4, 2, "src/a.c", 20),
         (4, 3, "src/a.c", 20),
         (4, 5, "", 0),
-        // The program begins at its second byte; instructions of two bytes, and of two operations.
+        // The program begins at its second byte, at the unit's end and past it; instructions of two bytes, and of two
+        // operations.
         (6, 0x20, "", 0),
+        (6, 0x37, "", 0),
+        (6, 0x38, "", 0),
         (10, 2, "src/a.c", 10),
         (11, 2, "", 0),
         // No range of lines, and no opcodes.
@@ -216,6 +229,99 @@ fn reads_changed_tables(rt: HostRuntime) -> Result<(), Fail> {
             "at {offset} is {value}"
         );
     }
+    Ok(())
+}
+
+// A unit with the header of the worked table, whose list of files ends with this byte, and this program.
+fn unit(alloc: Global, end: u8, program: &[&[u8]]) -> Result<Vec<u8>, AllocError> {
+    let mut bytes = Vec::new(alloc);
+    let mut len = 37u32;
+    for part in program {
+        len = len.wrapping_add(part.len() as u32);
+    }
+    put_words(&mut bytes, &[len])?;
+    bytes.extend_from_slice(&LINES[4..40])?;
+    bytes.extend_from_slice(&[end])?;
+    for part in program {
+        bytes.extend_from_slice(*part)?;
+    }
+    Ok(bytes)
+}
+
+// From 0x10000 on, and lines 10 and 20 up to 0x10068.
+const ADVANCE: &[u8] = &[2, 0x80, 0x80, 4];
+
+const ROWS: &[u8] = &[3, 9, 1, 2, 0x3c, 3, 0x0a, 1, 2, 0x2c, 0, 1, 1];
+
+const NINE_LOW: &[u8] = &[0x80, 0x80, 0x80, 0x80, 0x80, 0x80, 0x80, 0x80, 0x80];
+
+const NINE_HIGH: &[u8] = &[0xff, 0xff, 0xff, 0xff, 0xff, 0xff, 0xff, 0xff, 0xff];
+
+#[test]
+fn takes_no_lines_of_malformed_units(rt: HostRuntime) -> Result<(), Fail> {
+    let rows: [(u8, [&[u8]; 5], bool); 12] = [
+        (0, [ADVANCE, ROWS, b"", b"", b""], true),
+        // The list of files has no end.
+        (0x61, [ADVANCE, ROWS, b"", b"", b""], false),
+        // Unsigned numbers of ten and eleven bytes, and of 64 and 65 bits.
+        (0, [ADVANCE, &[2], NINE_LOW, &[0], ROWS], true),
+        (0, [ADVANCE, &[2], NINE_LOW, &[0x80, 0], ROWS], false),
+        (0, [ADVANCE, &[4], NINE_HIGH, &[1, 4, 1], ROWS], true),
+        (0, [ADVANCE, &[4], NINE_HIGH, &[2, 4, 1], ROWS], false),
+        (0, [ADVANCE, &[4], NINE_HIGH, &[0x81, 0, 4, 1], ROWS], false),
+        // Signed ones: the tenth byte only repeats the sign.
+        (0, [ADVANCE, &[3], NINE_LOW, &[0], ROWS], true),
+        (0, [ADVANCE, &[3], NINE_LOW, &[0x80, 0], ROWS], false),
+        (0, [ADVANCE, &[3], NINE_LOW, &[1], ROWS], false),
+        (0, [ADVANCE, &[3], NINE_HIGH, &[0x7f, 3, 1], ROWS], true),
+        (0, [ADVANCE, &[3], NINE_HIGH, &[0x7e, 3, 1], ROWS], false),
+    ];
+    for (end, program, has_lines) in rows {
+        let lines = unit(rt.alloc(), end, &program)?;
+        let expected = if has_lines {
+            ("a", "src/a.c", 20)
+        } else {
+            ("a", "", 0)
+        };
+        assert!(rt;
+            frame_is(rt.alloc(), lines.as_slice(), 0x1_0054, expected)?,
+            "{lines:?}"
+        );
+    }
+    Ok(())
+}
+
+// One directory of 1,000,000 bytes with 300 files, of which the last one has the lines.
+#[test]
+fn keeps_one_long_directory(rt: HostRuntime) -> Result<(), Fail> {
+    let alloc = rt.alloc();
+    let mut unit = Vec::new(alloc);
+    unit.extend_from_slice(&LINES[4..28])?;
+    for _ in 0..10_000 {
+        unit.extend_from_slice(&[b'd'; 100])?;
+    }
+    unit.extend_from_slice(&[0, 0])?;
+    for _ in 0..300 {
+        unit.extend_from_slice(&[b'f', 0, 1, 0, 0])?;
+    }
+    unit.extend_from_slice(&[0])?;
+    let header = (unit.len() as u32).wrapping_sub(6);
+    unit.extend_from_slice(ADVANCE)?;
+    unit.extend_from_slice(&[4, 0xac, 2])?;
+    unit.extend_from_slice(ROWS)?;
+    let mut lines = Vec::new(alloc);
+    put_words(&mut lines, &[unit.len() as u32])?;
+    lines.extend_from_slice(&LINES[4..6])?;
+    put_words(&mut lines, &[header])?;
+    lines.extend_from_slice(unit.get(6..).ok_or("no unit")?)?;
+    let bytes = file(alloc, &FUNCTIONS, STRINGS, lines.as_slice())?;
+    let image = load(alloc, bytes.as_slice())?;
+    let names = Names::read(alloc, &image)?;
+    let frame = names.frame(0x1_0054);
+    let directory = frame.file.directory.ok_or("no directory")?;
+    assert_eq!(rt; directory.len(), 1_000_000);
+    assert_eq!(rt; frame.file.name, "f");
+    assert_eq!(rt; frame.line, 20);
     Ok(())
 }
 

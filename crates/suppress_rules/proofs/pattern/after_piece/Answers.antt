@@ -1,10 +1,7 @@
-use Rattle.std.proofs.Common.{sym, ap, ◌∙◌, length, Some}
-use Rattle.std.proofs.lemmas.List.{take_rest}
-use Rattle.suppress_rules.proofs.PatternLaws.{piece_here}
+use Rattle.std.proofs.Common.{◌∙◌}
+use Rattle.suppress_rules.specs.Texts.{text_view}
+use Rattle.suppress_rules.proofs.PatternLaws.{piece_found}
 use Rattle.suppress_rules.proofs.pattern.after_piece.Goals as goal
 
-pub returns : goal.returns
-returns c =
-    ap Some (take_rest c.loop-rest.rest.now (length c.args.piece.now))
-    ∙ piece_here c.args.piece.now c.loop-rest.rest.now (sym c.starts_with.ensures.value ∙ c.loop-rest-test.false)
-    ∙ c.loop-rest.invariant
+pub returns-in-Some : goal.returns-in-Some
+returns-in-Some c = piece_found c.args.piece.now (text_view c.loop-after.rest) (text_view c.in-Some.after) c.in-Some.ensures ∙ c.loop-after.invariant

@@ -1,28 +1,26 @@
-use Rattle.std.proofs.Common.{◌&&◌, sym, ap, ◌∙◌, length, drop}
-use Rattle.std.proofs.lemmas.List.{take_rest}
-use Rattle.suppress_rules.specs.Patterns as patterns
-use Rattle.suppress_rules.proofs.PatternLaws.{before_star, whole_piece, open_piece}
+use Rattle.std.proofs.Common.{◌==◌, ◌∙◌, length}
+use Rattle.suppress_rules.specs.Texts.{text_view}
+use Rattle.suppress_rules.proofs.PatternLaws.{star_found, star_missing, last_found, last_missing, open_is, bound_is}
 use Rattle.suppress_rules.proofs.pattern.matches_body.Goals as goal
 
-pub returns-then-starts_with : goal.returns-then-starts_with
-returns-then-starts_with c =
+pub returns-in-Some-behind : goal.returns-in-Some-behind
+returns-in-Some-behind c =
     c.matches_body_somewhere.ensures
-    ∙ ap (patterns.some_end (patterns.matches_body c.args.bound c.in-Some.rest.now)) (take_rest c.args.text.now (length c.in-Some.piece.now))
-    ∙ ap (λ s. s && patterns.some_end (patterns.matches_body c.args.bound c.in-Some.rest.now) (drop (length c.in-Some.piece.now) c.args.text.now)) (sym c.if-starts_with.true ∙ c.starts_with.ensures.value)
-    ∙ before_star c.args.bound c.args.pattern.now c.args.text.now c.in-Some.piece.now c.in-Some.rest.now c.in-Some.ensures.0 c.in-Some.ensures.1
+    ∙ star_found c.args.bound c.args.pattern.now (text_view c.args.text) c.in-Some.piece.now c.in-Some.rest.now (text_view c.in-Some-behind.after) c.in-Some.ensures.0 c.in-Some.ensures.1 c.in-Some-behind.ensures
 
-pub returns-else-starts_with : goal.returns-else-starts_with
-returns-else-starts_with c =
-    c.if-starts_with.false
-    ∙ ap (λ s. s && patterns.some_end (patterns.matches_body c.args.bound c.in-Some.rest.now) (drop (length c.in-Some.piece.now) c.args.text.now)) (sym c.if-starts_with.false ∙ c.starts_with.ensures.value)
-    ∙ before_star c.args.bound c.args.pattern.now c.args.text.now c.in-Some.piece.now c.in-Some.rest.now c.in-Some.ensures.0 c.in-Some.ensures.1
+pub returns-in-None-behind : goal.returns-in-None-behind
+returns-in-None-behind c =
+    star_missing c.args.bound c.args.pattern.now (text_view c.args.text) c.in-Some.piece.now c.in-Some.rest.now c.in-Some.ensures.0 c.in-Some.ensures.1 c.in-None-behind.ensures
 
-pub returns-in-None : goal.returns-in-None
-returns-in-None c =
-    c.eq.ensures ∙ sym (whole_piece c.args.pattern.now c.args.text.now c.in-None.ensures)
-    ∙ ap (λ b. patterns.matches_body b c.args.pattern.now c.args.text.now) (sym c.if-bound.true)
+pub returns-then-not-bound : goal.returns-then-not-bound
+returns-then-not-bound c =
+    open_is c.args.bound (length (text_view c.in-Some-behind-2.after) == 0) c.if-not-bound.true
+    ∙ last_found c.args.bound c.args.pattern.now (text_view c.args.text) (text_view c.in-Some-behind-2.after) c.in-None.ensures c.in-Some-behind-2.ensures
 
-pub returns-in-None-2 : goal.returns-in-None-2
-returns-in-None-2 c =
-    c.starts_with-in-None-2.ensures.value ∙ sym (open_piece c.args.pattern.now c.args.text.now c.in-None.ensures)
-    ∙ ap (λ b. patterns.matches_body b c.args.pattern.now c.args.text.now) (sym c.if-bound.false)
+pub returns-else-not-bound : goal.returns-else-not-bound
+returns-else-not-bound c =
+    c.is_empty.ensures ∙ bound_is c.args.bound (length (text_view c.in-Some-behind-2.after) == 0) c.if-not-bound.false
+    ∙ last_found c.args.bound c.args.pattern.now (text_view c.args.text) (text_view c.in-Some-behind-2.after) c.in-None.ensures c.in-Some-behind-2.ensures
+
+pub returns-in-None-behind-2 : goal.returns-in-None-behind-2
+returns-in-None-behind-2 c = last_missing c.args.bound c.args.pattern.now (text_view c.args.text) c.in-None.ensures c.in-None-behind-2.ensures

@@ -7,6 +7,7 @@ use Rattle.symbol_lines.specs.KeptLines.{texts_view}
 use Rattle.symbol_lines.specs.Views.{unit_view}
 use Rattle.symbol_lines.specs.MachineViews.{machine_view}
 use Rattle.symbol_lines.proofs.Gathering.{ends, unit_read, unit_number}
+use Rattle.symbol_lines.proofs.Pathing.{texts_in-shown}
 use Rattle.symbol_lines.proofs.sequences.read_unit.Goals as goal
 
 pub returns-clause-lines : goal.returns-clause-lines
@@ -16,7 +17,9 @@ returns-clause-lines c =
     let read : unit_at c.args.bytes.now ≡ Some u = sym c.in_ok-unit.ensures ∙ ap (option_map unit_view) c.in-Some.is in
     let ran : Some m ≡ option_map (fold perform_kept (kept_machine c.args.number (begin u.files))) (operations_in u.rules (length u.program) u.program) =
     sym (ap (option_map machine_view) c.in-Some-2.is) ∙ (rw (c.new.ensures.items, c.new-2.ensures.items) at c.in_ok-machine.ensures) in
-    let texts = rw (c.as_slice.ensures.value, c.as_slice-2.ensures.value) at c.in_ok-files.ensures in
+    let shown = rw c.as_slice.ensures.value at c.in_ok-shown.ensures in
+    let kept = rw (c.as_slice-2.ensures.value, c.as_slice-3.ensures.value, shown) at c.in_ok-files.ensures in
+    let texts = kept ∙ texts_in-shown u.directories m.files in
     rw (c.replace-sequences.ensures.value, read) (unit_read c.args.number u m (texts_view c.in_ok-files.files) (ends c.args.number u m ran) texts)
 
 pub returns-clause-units : goal.returns-clause-units
