@@ -2,12 +2,13 @@
 ghost use Rattle.std.specs.Prelude.{◌≡◌};
 ghost use Rattle.report_text.specs.Offers.{offers};
 
-use crate::{Offered, Reporter, status_of, summary, text_of};
+use crate::{Asked, Offered, Reporter, Suppressions, status_of, summary, text_of};
 use run_record::{
     Bytes, Entries, Finished, GuestEnd, KeptLock, LastState, Locks, NoMemory, Places, Record,
     Report, Reports, Side,
 };
 use std::alloc::{AllocError, Global};
+use std::cell::Cell;
 use std::test::Fail;
 use symbol_lines::{FileText, Frame, Frames, Unnamed};
 
@@ -255,5 +256,52 @@ fn what_becomes_of_races(rt: HostRuntime) -> Result<(), Fail> {
     assert!(rt; reporter.suppressed() == 1 && reporter.equal() == 2);
     assert!(rt; reporter.reports().len() == 4);
     assert!(rt; reporter.into_reports().len() == 4);
+    Ok(())
+}
+
+// Rules of which the seventh is met by all stacks. They count how often they are asked.
+#[derive(Drop)]
+struct Counting {
+    times: Cell<u32>,
+}
+
+impl Suppressions for Counting {
+    ghost use Rattle.std.specs.Prelude.{Some, refl};
+
+    ghost rule_met = { λ _ _ _. Some 7 };
+
+    fn rule_met(&self, _mine: &Option<Places>, _previous: &Option<Places>) -> Option<usize> {
+        self.times.set(self.times.get().wrapping_add(1));
+        Some(7)
+    }
+
+    ghost unordered = { λ _ _ _. refl };
+}
+
+// The stacks of a race, and how often the rules were asked up to it.
+const ASKED: [(u8, u8, u32); 8] = [
+    (1, 2, 1),
+    (1, 2, 1),
+    (2, 1, 1),
+    (0, 1, 2),
+    (1, 0, 2),
+    (1, 1, 3),
+    (2, 1, 3),
+    (0, 0, 4),
+];
+
+#[test]
+fn rules_are_asked_once_about_each_pair(rt: HostRuntime) -> Result<(), Fail> {
+    let alloc = rt.alloc();
+    let rules = Counting {
+        times: Cell::new(0),
+    };
+    let mut asked = Asked::new(alloc, &rules);
+    for (mine, previous, times) in ASKED {
+        let race = race_of(alloc, mine, previous)?;
+        let met = asked.rule_met(&race.mine.stack, &race.previous.stack)?;
+        assert!(rt; met == Some(7));
+        assert!(rt; rules.times.get() == times);
+    }
     Ok(())
 }
