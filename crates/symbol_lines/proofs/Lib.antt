@@ -8,3 +8,4 @@ pub mod Owning
 pub mod Gathering
 pub mod Looking
 pub mod Pathing
+pub mod Ending

@@ -57,7 +57,3 @@ shown_none bs high bad =
       | inl utf8 ↦ absurd (bad (IsUtf8-from_is_utf8 bs utf8))
       | inr not_utf8 ↦ rw (high, not_utf8) refl
     ]
-
-pub shown_from : (text : List ℕ) → unwrap_or (shown_or_none text) [] ≡ shown text
-shown_from text =
-    elim (is_shown text) as (λ s. unwrap_or (if s then Some text else None) [] ≡ (if s then text else [])) [ true ↦ refl | false ↦ refl ]

@@ -6,6 +6,7 @@ pub mod Program
 pub mod Views
 pub mod Lines
 pub mod Symbols
+pub mod NameEnds
 pub mod Kept
 pub mod MachineViews
 pub mod Frames

@@ -43,7 +43,7 @@ pub trait Frames {
 
     ghost frame_of: { Self → ℕ → FrameText };
 
-    /// What is known of a place. It takes no memory.
+    /// What is known of a place. It takes no memory, and looks at no text.
     fn frame(&self, place: u64) -> Frame<'_>
         ensures name { result.name.now ≡ (frame_of self.now place).name }
         ensures file { text_of result.file ≡ (frame_of self.now place).file }

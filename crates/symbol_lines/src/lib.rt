@@ -9,13 +9,15 @@
 //! In contracts names are the tables that they were read from, `tables_of` of `specs/Frames.antt`; a frame is `frame_in`
 //! there: its name is `name_of` of `specs/Symbols.antt`, and its file and line are `position_at` of `specs/Lines.antt`. The
 //! layers above use the clauses of these two calls, and know names as `Frames`. `read` sorts functions and sequences, also
-//! where they nest or overlap, into tables of steps, and keeps of each sequence the rows that a place can have. Texts stay
-//! parts of the executable: a file's text is a `FileText`, its directory and its name apart, so that no table refuses a
-//! file. `frame` is a binary search in each of them and takes no memory.
+//! where they nest or overlap, into tables of steps, keeps of each sequence the rows that a place can have, and finds where
+//! each name of the string table ends. Texts stay parts of the executable: a file's text is a `FileText`, its directory and
+//! its name apart, so that no table refuses a file. `read` tests each text once, and takes memory in proportion to the
+//! file; `frame` is a binary search in each table and takes no memory.
 #![tactic(auto)]
 
 mod frames;
 mod machine;
+mod name_table;
 mod names;
 mod operations;
 mod paths;

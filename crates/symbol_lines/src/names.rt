@@ -3,10 +3,11 @@ ghost use Rattle.std.specs.Prelude.{◌≡◌, IfOk};
 
 use crate::frames::{FileText, Frame, Frames};
 use crate::machine::Sequence;
+use crate::name_table::{name_at, name_ends};
 use crate::positions::find_position;
 use crate::sequences::{AllLines, read_lines, sequence_spans};
 use crate::spans::{Step, find_owner, steps_of};
-use crate::symbols::{function_spans, name_at};
+use crate::symbols::function_spans;
 use elf_image::Image;
 use run_record::NoMemory;
 use std::alloc::Global;
@@ -18,6 +19,7 @@ pub struct Names<'a> {
     symbols: &'a [u8],
     strings: &'a [u8],
     lines: &'a [u8],
+    ends: Vec<usize>,
     functions: Vec<Step>,
     places: Vec<Step>,
     sequences: Vec<Sequence>,
@@ -35,14 +37,15 @@ impl<'a> Model for Names<'a> {
 
     ghost view = { λ n. record { symbols = n.symbols.now; strings = n.strings.now; lines = n.lines.now } };
 
-    ghost invariant = { λ n. IsRead n.symbols.now n.lines.now n.functions.items n.places.items (map sequence_view n.sequences.items) (map texts_view n.units.items) };
+    ghost invariant = { λ n. IsRead n.symbols.now n.strings.now n.lines.now n.ends.items n.functions.items n.places.items (map sequence_view n.sequences.items) (map texts_view n.units.items) };
 }
 
 impl<'a> Names<'a> {
     ghost use Rattle.symbol_lines.specs.Frames.{tables_of};
 
     /// The names of an executable's code places. It takes memory in proportion to the tables: texts stay parts of the
-    /// executable.
+    /// executable. Whether a text can be shown is tested here, once for each directory, name of a file and byte of the
+    /// string table.
     pub fn read(alloc: Global, image: &Image<'a>) -> Result<Names<'a>, NoMemory>
         ensures { IfOk result (λ names. names ≡ tables_of image.now) }
     {
@@ -54,6 +57,7 @@ impl<'a> Names<'a> {
             Some(lines) => lines,
             None => b"".as_slice(),
         };
+        let ends = name_ends(alloc, strings)?;
         let spans = function_spans(alloc, symbols)?;
         let functions = steps_of(alloc, spans.as_slice())?;
         let all = read_lines(alloc, lines)?;
@@ -64,6 +68,7 @@ impl<'a> Names<'a> {
             symbols,
             strings,
             lines,
+            ends,
             functions,
             places,
             sequences,
@@ -94,7 +99,7 @@ impl Names<'_> {
         ensures { result.now ≡ name_of self.now.symbols self.now.strings place }
     {
         match find_owner(self.functions.as_slice(), place) {
-            Some(owner) => name_at(self.strings, owner.item),
+            Some(owner) => name_at(self.strings, self.ends.as_slice(), owner.item),
             None => "",
         }
     }

@@ -6,7 +6,6 @@ ghost use Rattle.symbol_lines.specs.Symbols as symbols;
 ghost use Rattle.symbol_lines.specs.Kept.{function_span};
 ghost use Rattle.symbol_lines.specs.KeptLines.{shown_or_none};
 
-use crate::reading::text_of;
 use crate::spans::Span;
 use elf_image::bytes::{u32_at, u64_at};
 use std::alloc::{AllocError, Global};
@@ -54,17 +53,4 @@ fn has_low_byte(bytes: &[u8]) -> bool
     ensures { result ≡ list_any (λ b. nat_lt b 0x20) bytes.now }
 {
     bytes.iter().any(|byte| *byte < 0x20)
-}
-
-/// The text at an offset of the string table.
-pub fn name_at(strings: &[u8], at: usize) -> &str
-    ensures { result.now ≡ symbols.name_at strings.now at }
-{
-    if at >= strings.len() {
-        return "";
-    }
-    match text_of(&strings[at..]) {
-        Some((text, _)) => shown_or_none(text).unwrap_or(""),
-        None => "",
-    }
 }

@@ -1,0 +1,34 @@
+-- Where the names in a string table end.
+use Rattle.std.specs.Prelude.{◌≡◌, ℕ, ◌+◌, ◌-◌, ◌<◌, ◌≤◌, nat_lt, if◌then◌else◌, List, length, drop, slice_index, Option, Some, None}
+use Rattle.std.specs.Option.{option_map}
+use Rattle.symbol_lines.specs.Reading.{text_at}
+use Rattle.symbol_lines.specs.Lines.{is_shown}
+
+-- how long the text is, if it can be shown
+abbrev pub shown_len : Option (List ℕ × List ℕ) → Option ℕ
+shown_len None = None
+shown_len (Some text) = if is_shown text.0 then Some (length text.0) else None
+
+-- how long the name at the front of bytes is, if it has an end and can be shown
+abbrev pub name_len : List ℕ → Option ℕ
+name_len bytes = shown_len (text_at bytes)
+
+-- where the name at an offset of a string table ends
+abbrev pub name_end : List ℕ → ℕ → Option ℕ
+name_end strings offset = option_map (λ len. offset + len) (name_len (drop offset strings))
+
+-- a place of the table, and none past it
+abbrev pub place_in : List ℕ → ℕ → Option ℕ
+place_in strings end = if nat_lt end (length strings) then Some end else None
+
+-- the ends of the names at the offsets from the last one down
+pub record HasEnds (strings ends : List ℕ) : Type 0 where
+  pub shorter : length ends ≤ length strings
+  pub each : (k : ℕ) → k < length ends → place_in strings (slice_index ends k) ≡ name_end strings (length strings - 1 - k)
+
+-- the first place behind an offset that isn't inside a character
+pub record IsBoundary (strings : List ℕ) (offset boundary : ℕ) : Type 0 where
+  pub above : offset < boundary
+  pub within : boundary ≤ length strings
+  pub inside : (k : ℕ) → offset < k → k < boundary → 128 ≤ slice_index strings k
+  pub first : boundary < length strings → 128 ≤ slice_index strings boundary → 192 ≤ slice_index strings boundary
