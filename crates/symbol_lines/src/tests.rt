@@ -232,14 +232,19 @@ fn reads_changed_tables(rt: HostRuntime) -> Result<(), Fail> {
     Ok(())
 }
 
+// A length of four bytes.
+fn put_len(bytes: &mut Vec<u8>, len: usize) -> Result<(), AllocError> {
+    bytes.extend_from_slice(&(len as u64).to_le_bytes()[..4])
+}
+
 // A unit with the header of the worked table, whose list of files ends with this byte, and this program.
 fn unit(alloc: Global, end: u8, program: &[&[u8]]) -> Result<Vec<u8>, AllocError> {
     let mut bytes = Vec::new(alloc);
-    let mut len = 37u32;
+    let mut len = 37usize;
     for part in program {
-        len = len.wrapping_add(part.len() as u32);
+        len = len.wrapping_add(part.len());
     }
-    put_words(&mut bytes, &[len])?;
+    put_len(&mut bytes, len)?;
     bytes.extend_from_slice(&LINES[4..40])?;
     bytes.extend_from_slice(&[end])?;
     for part in program {
@@ -305,14 +310,14 @@ fn keeps_one_long_directory(rt: HostRuntime) -> Result<(), Fail> {
         unit.extend_from_slice(&[b'f', 0, 1, 0, 0])?;
     }
     unit.extend_from_slice(&[0])?;
-    let header = (unit.len() as u32).wrapping_sub(6);
+    let header = unit.len().wrapping_sub(6);
     unit.extend_from_slice(ADVANCE)?;
     unit.extend_from_slice(&[4, 0xac, 2])?;
     unit.extend_from_slice(ROWS)?;
     let mut lines = Vec::new(alloc);
-    put_words(&mut lines, &[unit.len() as u32])?;
+    put_len(&mut lines, unit.len())?;
     lines.extend_from_slice(&LINES[4..6])?;
-    put_words(&mut lines, &[header])?;
+    put_len(&mut lines, header)?;
     lines.extend_from_slice(unit.get(6..).ok_or("no unit")?)?;
     let bytes = file(alloc, &FUNCTIONS, STRINGS, lines.as_slice())?;
     let image = load(alloc, bytes.as_slice())?;
