@@ -262,28 +262,34 @@ const NINE_LOW: &[u8] = &[0x80, 0x80, 0x80, 0x80, 0x80, 0x80, 0x80, 0x80, 0x80];
 
 const NINE_HIGH: &[u8] = &[0xff, 0xff, 0xff, 0xff, 0xff, 0xff, 0xff, 0xff, 0xff];
 
+// The last byte of a list of files, programs in parts, and whether the unit has lines.
+static UNITS: [(u8, &[&[u8]], bool); 12] = [
+    (0, &[ADVANCE, ROWS], true),
+    // The list of files has no end.
+    (0x61, &[ADVANCE, ROWS], false),
+    // Unsigned numbers of ten and eleven bytes, and of 64 and 65 bits.
+    (0, &[ADVANCE, &[2], NINE_LOW, &[0], ROWS], true),
+    (0, &[ADVANCE, &[2], NINE_LOW, &[0x80, 0], ROWS], false),
+    (0, &[ADVANCE, &[4], NINE_HIGH, &[1, 4, 1], ROWS], true),
+    (0, &[ADVANCE, &[4], NINE_HIGH, &[2, 4, 1], ROWS], false),
+    (
+        0,
+        &[ADVANCE, &[4], NINE_HIGH, &[0x81, 0, 4, 1], ROWS],
+        false,
+    ),
+    // Signed ones: the tenth byte only repeats the sign.
+    (0, &[ADVANCE, &[3], NINE_LOW, &[0], ROWS], true),
+    (0, &[ADVANCE, &[3], NINE_LOW, &[0x80, 0], ROWS], false),
+    (0, &[ADVANCE, &[3], NINE_LOW, &[1], ROWS], false),
+    (0, &[ADVANCE, &[3], NINE_HIGH, &[0x7f, 3, 1], ROWS], true),
+    (0, &[ADVANCE, &[3], NINE_HIGH, &[0x7e, 3, 1], ROWS], false),
+];
+
 #[test]
 fn takes_no_lines_of_malformed_units(rt: HostRuntime) -> Result<(), Fail> {
-    let rows: [(u8, [&[u8]; 5], bool); 12] = [
-        (0, [ADVANCE, ROWS, b"", b"", b""], true),
-        // The list of files has no end.
-        (0x61, [ADVANCE, ROWS, b"", b"", b""], false),
-        // Unsigned numbers of ten and eleven bytes, and of 64 and 65 bits.
-        (0, [ADVANCE, &[2], NINE_LOW, &[0], ROWS], true),
-        (0, [ADVANCE, &[2], NINE_LOW, &[0x80, 0], ROWS], false),
-        (0, [ADVANCE, &[4], NINE_HIGH, &[1, 4, 1], ROWS], true),
-        (0, [ADVANCE, &[4], NINE_HIGH, &[2, 4, 1], ROWS], false),
-        (0, [ADVANCE, &[4], NINE_HIGH, &[0x81, 0, 4, 1], ROWS], false),
-        // Signed ones: the tenth byte only repeats the sign.
-        (0, [ADVANCE, &[3], NINE_LOW, &[0], ROWS], true),
-        (0, [ADVANCE, &[3], NINE_LOW, &[0x80, 0], ROWS], false),
-        (0, [ADVANCE, &[3], NINE_LOW, &[1], ROWS], false),
-        (0, [ADVANCE, &[3], NINE_HIGH, &[0x7f, 3, 1], ROWS], true),
-        (0, [ADVANCE, &[3], NINE_HIGH, &[0x7e, 3, 1], ROWS], false),
-    ];
-    for (end, program, has_lines) in rows {
-        let lines = unit(rt.alloc(), end, &program)?;
-        let expected = if has_lines {
+    for (end, program, has_lines) in UNITS.iter() {
+        let lines = unit(rt.alloc(), *end, program)?;
+        let expected = if *has_lines {
             ("a", "src/a.c", 20)
         } else {
             ("a", "", 0)
