@@ -68,7 +68,7 @@ const TWO_WRITERS: &str = "main: N(a) N(b) T; a: E(write8,0) T; b: E(write8,0) T
 const STARVING: &str =
     "main: N(a) E(write8,0) E(release,8) E(write8,24) T; a: E(release,16) E(release,16) E(write8,0) E(write8,24) T";
 
-static STARVED: [&str; 4] = ["--harts=2", "--slots=2", "--epochs=2", "--plan=0:22,1:100"];
+const STARVED: &[&str] = &["--harts=2", "--slots=2", "--epochs=2", "--plan=0:22,1:100"];
 
 static SLOTS: [Row<'static>; 3] = [
     // b takes the slot that a gave back, and with it a's clock.
@@ -95,7 +95,7 @@ static SLOTS: [Row<'static>; 3] = [
     // Spent slots begin an era, and a pair across eras isn't told.
     Row {
         program: STARVING,
-        options: &STARVED,
+        options: STARVED,
         races: &[Race {
             mine: "Write of size 8 at 0x0000000001000018 by thread T1",
             stack: &[(UNKNOWN, 0x10108)],
@@ -193,7 +193,7 @@ fn a_thread_without_a_slot_ends_the_era(rt: HostRuntime) -> Result<(), Fail> {
     let mut words = Vec::new(alloc);
     words.push("step")?;
     words.push("p")?;
-    words.extend_from_slice(&STARVED)?;
+    words.extend_from_slice(STARVED)?;
     let answer = call(alloc, words.as_slice(), &file)?;
     let Some(finished) = &answer.ended.kept else {
         panic!(rt; "nothing is kept");
