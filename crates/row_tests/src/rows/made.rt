@@ -1,6 +1,6 @@
 // Runs of programs that are made from a number.
 use super::*;
-use run_record::{Event, Finished, Part};
+use run_record::{Entry, Event, Finished, Part};
 
 fn check_made<R: Abort>(rt: &R, alloc: Global, words: &[&str], out: &str) -> Result<(), Fail> {
     let answer = call(alloc, words, b"")?;
@@ -160,6 +160,19 @@ impl Known {
     }
 }
 
+/// Whether the access at that place of the entry loads a word that races.
+fn finds_race(known: &Known, entry: &Entry, place: usize) -> bool {
+    let mut found = false;
+    for check in entry.checks.as_slice() {
+        if check.event as usize == place {
+            for word in check.cells.iter() {
+                found = found || known.races(entry.tid, check.word, *word);
+            }
+        }
+    }
+    found
+}
+
 /// How many accesses of a run load a word that races.
 fn races_in(alloc: Global, finished: &Finished) -> Result<u64, AllocError> {
     let mut known = Known {
@@ -169,17 +182,8 @@ fn races_in(alloc: Global, finished: &Finished) -> Result<u64, AllocError> {
     };
     let mut races = 0u64;
     for entry in finished.history.entries.as_slice() {
-        let mut checks = entry.checks.as_slice().iter().peekable();
         for (place, event) in entry.events.as_slice().iter().enumerate() {
-            let mut found = false;
-            while let Some(check) = checks.next_if(|check| check.event as usize == place) {
-                found = found
-                    || check
-                        .cells
-                        .iter()
-                        .any(|word| known.races(entry.tid, check.word, *word));
-            }
-            if found {
+            if finds_race(&known, entry, place) {
                 races = races.saturating_add(1);
             }
             known.hear(entry.tid, *event)?;

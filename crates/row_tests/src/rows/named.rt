@@ -156,20 +156,23 @@ fn other_reports_are_told_beside_suppressed_ones(rt: HostRuntime) -> Result<(), 
     check_row(&rt, rt.alloc(), &row)
 }
 
-/// Sixty races of one pair of stacks, which a rule suppresses.
-const LOOPS: Row<'static> = Row {
-    program: "main: N(foo1) addi x8,x0,60 main_loop: E(write8,0) addi x8,x8,-1 bne x8,x0,main_loop T; foo1: addi x8,x0,60 foo1_loop: E(write8,0) addi x8,x8,-1 bne x8,x0,foo1_loop T",
-    form: Form::Named { lines: None },
-    options: WITH_RULES,
-    rules: "thread:*\nrace:^foo1$\nrace_top:^main_loop$",
-    summary: (0, 60, 0, 2, "all ended"),
-    ..ROW
-};
+const LOOPS: &str =
+    "main: N(foo1) addi x8,x0,60 main_loop: E(write8,0) addi x8,x8,-1 bne x8,x0,main_loop T; foo1: addi x8,x0,60 foo1_loop: E(write8,0) addi x8,x8,-1 bne x8,x0,foo1_loop T";
 
-#[test]
-fn each_race_of_a_suppressed_pair_is_counted(rt: HostRuntime) -> Result<(), Fail> {
-    check_row(&rt, rt.alloc(), &LOOPS)?;
-    let reported = Row {
+/// Sixty races of one pair of stacks: under a rule that suppresses them, and under one that doesn't.
+static SIXTY: [Row<'static>; 2] = [
+    Row {
+        program: LOOPS,
+        form: Form::Named { lines: None },
+        options: WITH_RULES,
+        rules: "thread:*\nrace:^foo1$\nrace_top:^main_loop$",
+        summary: (0, 60, 0, 2, "all ended"),
+        ..ROW
+    },
+    Row {
+        program: LOOPS,
+        form: Form::Named { lines: None },
+        options: WITH_RULES,
         rules: "race:^foo1$",
         races: &[Race {
             mine: BY_T1,
@@ -179,7 +182,14 @@ fn each_race_of_a_suppressed_pair_is_counted(rt: HostRuntime) -> Result<(), Fail
         }],
         summary: (1, 0, 59, 2, "all ended"),
         status: 66,
-        ..LOOPS
-    };
-    check_row(&rt, rt.alloc(), &reported)
+        ..ROW
+    },
+];
+
+#[test]
+fn each_race_of_a_suppressed_pair_is_counted(rt: HostRuntime) -> Result<(), Fail> {
+    for row in SIXTY.iter() {
+        check_row(&rt, rt.alloc(), row)?;
+    }
+    Ok(())
 }

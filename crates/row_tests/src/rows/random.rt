@@ -177,8 +177,17 @@ fn run<R: Abort>(
         failing_reads: &[],
         failing_puts: &[],
     };
-    let answer = call_words(alloc, &words, &ports)?;
-    match answer.ended.kept {
+    let Answer {
+        out: _out,
+        err: _err,
+        ended,
+    } = call_words(alloc, &words, &ports)?;
+    let Ended {
+        status: _status,
+        end: _end,
+        kept,
+    } = ended;
+    match kept {
         Some(finished) => Ok(finished),
         None => panic!(rt; "nothing is kept"),
     }
