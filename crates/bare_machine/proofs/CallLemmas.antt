@@ -1,5 +1,5 @@
 -- Addresses of fields, and threads of a longer list.
-use Rattle.std.proofs.Common.{◌≡◌, ℕ, zero, suc, ◌+◌, ◌%◌, ◌<◌, ◌≤◌, ◌⊎◌, inl, inr, List, [], ◌∷◌, ◌++◌, Some, slice_get, arith, subst}
+use Rattle.std.proofs.Common.{◌≡◌, ℕ, zero, suc, ◌+◌, ◌%◌, ◌≤◌, inl, inr, List, [], ◌∷◌, ◌++◌, Some, slice_get, arith, subst}
 use Rattle.guest_memory.specs.Fields.{IsField}
 use Rattle.entry_calls.specs.Calls.{IsSize}
 use Rattle.bare_machine.specs.Memory.{offset}

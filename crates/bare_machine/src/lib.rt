@@ -6,20 +6,21 @@
 //! touch one thread or one word are public too, for a layer that steps a thread over a part of memory.
 #![tactic(auto)]
 
-mod acted;
-mod calling;
+mod asking;
 mod machine;
 mod memory;
-mod preview;
+mod request;
+mod serving;
 mod stepped;
 mod thread;
 pub mod touch;
 
-pub use acted::Acted;
-pub use calling::{answer_thread, minus, outcome, replaced};
-pub use machine::{DESK, Machine, events_before, fault_number, first_end};
+pub use machine::{DESK, Machine, Preview, events_before, fault_number, first_end};
 pub use memory::{Memory, stripe};
-pub use preview::{Preview, acted_needs, outlook};
+pub use request::{Operation, Request, Return, Touch};
+pub use serving::{
+    answer_thread, begin_thread, depth_after, finish_call, minus, outcome, replaced, return_thread,
+};
 pub use stepped::Stepped;
 pub use thread::{Thread, new_thread};
 pub use touch::{Touched, offset};

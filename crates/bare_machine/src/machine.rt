@@ -1,14 +1,14 @@
 // The bare machine.
-ghost use Rattle.std.specs.Prelude.{◌≡◌, ◌%◌, ◌^◌, ◌<◌, ◌≤◌, [], Some, length, slice_get, option_to_list, true, IfOk, OnOk, OnErr};
+ghost use Rattle.std.specs.Prelude.{◌≡◌, ◌<◌, ◌≤◌, Some, length, slice_get, true, IfOk, OnErr};
 ghost use Rattle.bare_machine.specs.declared.thread.Thread.{Thread};
-ghost use Rattle.bare_machine.specs.Memory.{action};
 ghost use Rattle.bare_machine.specs.World.{start, lives, HasMemory};
 ghost use Rattle.rv_exec.specs.Faults.{number_of};
-ghost use Rattle.bare_machine.specs.Step as step_of;
-ghost use Rattle.bare_machine.specs.Step.{step, first_of, first_events, Takes};
+ghost use Rattle.bare_machine.specs.Preview as previews;
+ghost use Rattle.bare_machine.specs.Step.{step, first_of, first_events};
+ghost use Rattle.bare_machine.specs.Asked.{Asks, IsSound, IsShallow, IsWithin, IsUndone};
 
 use crate::thread::new_thread;
-use crate::{Acted, Memory, Stepped, Thread};
+use crate::{Memory, Request, Stepped, Thread};
 use elf_image::Image;
 use entry_calls::CallEvents;
 use run_record::{Event, GuestEnd, NoMemory};
@@ -66,6 +66,15 @@ pub fn first_end(one: Option<GuestEnd>, other: Option<GuestEnd>) -> Option<Guest
     }
 }
 
+/// What a thread's next instruction will need.
+#[derive(Clone, Copy)]
+pub struct Preview {
+    /// Whether only a thread with a slot makes it.
+    pub needs_slot: bool,
+    /// Whether it uses an object that threads share.
+    pub uses_object: bool,
+}
+
 /// The events that an instruction has before its own.
 pub fn events_before(thread: &Thread) -> CallEvents
     ensures events { result ≡ first_events thread.now }
@@ -95,65 +104,18 @@ impl Machine {
         })
     }
 
-    // The thread's instruction is done, without an event of its own.
-    pub(crate) fn go_on(&mut self, tid: u32, object: Option<u32>) -> Stepped
+    // What the thread's next instruction comes to. If it is done then, the thread has its registers.
+    fn ask(&mut self, image: &Image<'_>, tid: u32) -> Request
         requires { tid < length self.old.threads }
-        ensures memory { self.new.memory ≡ self.old.memory }
-        ensures step { Takes self.old self.new tid result (λ t. step_of.goes_on self.old tid t [] object) }
-    {
-        let thread = &mut self.threads[tid as usize];
-        let events = events_before(thread);
-        thread.began = true;
-        Stepped { events, object }
-    }
-
-    // The thread ends, and with it the run where this is its first exit or fault.
-    pub(crate) fn stop(&mut self, tid: u32, end: Option<GuestEnd>) -> Stepped
-        requires { tid < length self.old.threads }
-        ensures memory { self.new.memory ≡ self.old.memory }
-        ensures step { Takes self.old self.new tid result (λ t. step_of.stops self.old tid t end) }
-    {
-        let thread = &mut self.threads[tid as usize];
-        let mut events = events_before(thread);
-        thread.lives = false;
-        thread.began = true;
-        events.push(Event::End);
-        self.ended = first_end(self.ended, end);
-        Stepped {
-            events,
-            object: Some(DESK),
-        }
-    }
-
-    pub(crate) fn fault(&mut self, tid: u32, fault: GuestFault) -> Stepped
-        requires { tid < length self.old.threads }
-        ensures memory { self.new.memory ≡ self.old.memory }
-        ensures step { Takes self.old self.new tid result (λ t. step_of.fault_step self.old tid t fault) }
-    {
-        let pc = self.threads[tid as usize].regs.pc();
-        self.stop(
-            tid,
-            Some(GuestEnd::Fault {
-                fault: fault_number(fault),
-                pc,
-                tid,
-            }),
-        )
-    }
-
-    // The instruction at the thread's pc, up to a call.
-    fn act(&mut self, image: &Image<'_>, tid: u32) -> Result<Acted, NoMemory>
-        requires thread { tid < length self.old.threads }
-        requires memory { HasMemory image.now self.old }
-        ensures world { (t : Thread) → slice_get self.old.threads tid ≡ Some t → OnOk result (self.new ≡ step_of.world_after_action image.now self.old tid t) }
-        ensures acted { (t : Thread) → slice_get self.old.threads tid ≡ Some t → IfOk result (λ acted. acted ≡ (action image.now tid t.regs self.old.memory).acted) }
-        ensures undone { IfOk result (λ acted. step_of.KeepsUnlessDone acted self.old self.new) }
+        ensures asks { (t : Thread) → slice_get self.old.threads tid ≡ Some t → Asks image.now self.old self.new tid t result }
         ensures count { length self.new.threads ≡ length self.old.threads }
-        ensures err { OnErr result (self.new ≡ self.old) }
-        ensures memory { HasMemory image.now self.new }
+        ensures memory { self.new.memory ≡ self.old.memory }
+        ensures sound { IsSound result }
+        ensures within { IsWithin image.now result }
+        ensures shallow { (t : Thread) → slice_get self.new.threads tid ≡ Some t → IsShallow result t.depth }
+        ensures kept { IsUndone result → self.new ≡ self.old }
     {
-        let thread = &mut self.threads[tid as usize];
-        self.memory.act(image, tid, &mut thread.regs)
+        Request::of(image, tid, &mut self.threads[tid as usize])
     }
 
     /// One instruction of a thread that lives, on the image that the machine was made for; after
@@ -165,11 +127,27 @@ impl Machine {
         ensures err { OnErr result (self.new ≡ self.old) }
         ensures memory { HasMemory image.now self.new }
     {
-        let acted = self.act(image, tid)?;
-        match acted {
-            Acted::Done(object) => Ok(self.go_on(tid, object)),
-            Acted::Called => self.call(image, tid),
-            Acted::Faulted(fault) => Ok(self.fault(tid, fault)),
+        let request = self.ask(image, tid);
+        let mut events = CallEvents::new();
+        self.serve(tid, &request, &mut events)?;
+        Ok(Stepped {
+            events,
+            object: request.object(),
+        })
+    }
+
+    /// What the next instruction of a thread that lives will need, on the image that the machine
+    /// was made for. It takes no memory.
+    pub fn preview(&self, image: &Image<'_>, tid: u32) -> Preview
+        requires { lives self.now tid ≡ true }
+        ensures needs { result.needs_slot ≡ previews.needs_slot image.now self.now tid }
+        ensures uses { result.uses_object ≡ previews.uses_object image.now self.now tid }
+    {
+        let mut thread = self.threads[tid as usize];
+        let request = Request::of(image, tid, &mut thread);
+        Preview {
+            needs_slot: !thread.began || request.needs_slot(),
+            uses_object: request.object().is_some(),
         }
     }
 

@@ -1,20 +1,15 @@
-// Guest memory, and what an instruction does to it and to the registers.
+// Guest memory, and what an instruction makes of it.
 ghost use Rattle.std.specs.Prelude.{◌≡◌, ◌<◌, IfOk, OnOk, OnErr, length, slice_index};
-ghost use Rattle.rv_decode.specs.Table.{IsInstr};
-ghost use Rattle.rv_exec.specs.Meaning.{meaning};
-ghost use Rattle.rv_exec.specs.Effects.{IsPlaced, TellsAtomic};
-ghost use Rattle.elf_image.specs.File.{granules_of};
 ghost use Rattle.bare_machine.specs.Memory as memory;
-ghost use Rattle.bare_machine.specs.Memory.{GuestMemory, ChangesNothing};
 ghost use Rattle.bare_machine.specs.World.{initial_memory};
+ghost use Rattle.bare_machine.specs.Asked.{IsTouch, IsTouched};
 
-use crate::Acted;
-use crate::touch::{offset, touch};
+use crate::request::Touch;
+use crate::touch::touch;
 use elf_image::Image;
-use guest_memory::{Reservations, field};
+use guest_memory::Reservations;
 use run_record::NoMemory;
-use rv_decode::{Instr, decode};
-use rv_exec::{Effect, GuestFault, Regs, begin, finish};
+use rv_exec::Effect;
 use std::alloc::{AllocError, Global};
 use std::marker::Model;
 
@@ -26,7 +21,7 @@ pub struct Memory {
 }
 
 impl Model for Memory {
-    ghost use Rattle.bare_machine.specs.Memory.{GuestMemory, ChangesNothing};
+    ghost use Rattle.bare_machine.specs.Memory.{GuestMemory};
 
     ghost Value = { GuestMemory };
 
@@ -92,110 +87,20 @@ impl Memory {
         }
     }
 
-    // An instruction that touches a granule.
-    fn at_granule(
-        &mut self,
-        tid: u32,
-        regs: &mut Regs,
-        instr: &Instr,
-        effect: Effect,
-        addr: u64,
-        granule: u32,
-    ) -> Result<Acted, NoMemory>
-        requires granule { granule < length self.old.words }
-        requires instr { IsInstr instr.now }
-        requires placed { IsPlaced effect }
-        requires atomic { TellsAtomic (meaning instr.now.op) effect }
+    /// An instruction touches a granule. Its value is what the instruction gets. After want of memory nothing has changed.
+    pub(crate) fn touch(&mut self, tid: u32, request: &Touch) -> Result<u64, NoMemory>
+        requires granule { request.now.granule < length self.old.words }
+        requires sound { IsTouch request.now }
         ensures memory { length self.new.words ≡ length self.old.words }
-        ensures undone { IfOk result (λ acted. ChangesNothing acted regs.old regs.new self.old self.new) }
-        ensures ok { IfOk result (λ acted. memory.granule_action tid regs.old self.old instr.now effect addr granule ≡ record { registers = regs.new; memory = self.new; acted = acted }) }
-        ensures err { OnErr result ((self.new ≡ self.old) × (regs.new ≡ regs.old)) }
+        ensures ok { IfOk result (λ value. IsTouched tid self.old self.new request.now value) }
+        ensures err { OnErr result (self.new ≡ self.old) }
     {
+        let granule = request.granule;
         let stands = self.reservations.stands(tid, granule);
-        let touched = touch(instr.op, effect, self.words[granule as usize], stands);
-        self.settle(tid, granule, effect)?;
+        let word = self.words[granule as usize];
+        let touched = touch(request.instr.op, request.effect, word, stands);
+        self.settle(tid, granule, request.effect)?;
         self.write(granule, touched.written);
-        finish(regs, instr, touched.value);
-        Ok(Acted::Done(Some(stripe(addr))))
-    }
-
-    // An instruction that touches the memory at an address.
-    fn at_address(
-        &mut self,
-        image: &Image<'_>,
-        tid: u32,
-        regs: &mut Regs,
-        instr: &Instr,
-        effect: Effect,
-        addr: u64,
-    ) -> Result<Acted, NoMemory>
-        requires memory { length self.old.words ≡ granules_of image.now }
-        requires instr { IsInstr instr.now }
-        requires placed { IsPlaced effect }
-        requires atomic { TellsAtomic (meaning instr.now.op) effect }
-        ensures memory { length self.new.words ≡ length self.old.words }
-        ensures undone { IfOk result (λ acted. ChangesNothing acted regs.old regs.new self.old self.new) }
-        ensures ok { IfOk result (λ acted. memory.memory_action image.now tid regs.old self.old instr.now effect addr ≡ record { registers = regs.new; memory = self.new; acted = acted }) }
-        ensures err { OnErr result ((self.new ≡ self.old) × (regs.new ≡ regs.old)) }
-    {
-        image.accepted();
-        if let Some(granule) = image.granule_of(addr) {
-            return self.at_granule(tid, regs, instr, effect, addr, granule);
-        }
-        match image.constant_word(addr) {
-            Some(word) => Ok(at_constant(regs, instr, effect, word)),
-            None => Ok(Acted::Faulted(GuestFault::Outside)),
-        }
-    }
-
-    /// The instruction at a thread's pc, up to a call, which is left to do. After an error nothing
-    /// has changed.
-    #[tactic(auto, unfolding(crate::specs::Memory::action))]
-    pub fn act(&mut self, image: &Image<'_>, tid: u32, regs: &mut Regs) -> Result<Acted, NoMemory>
-        requires { length self.old.words ≡ granules_of image.now }
-        ensures ok { IfOk result (λ acted. memory.action image.now tid regs.old self.old ≡ record { registers = regs.new; memory = self.new; acted = acted }) }
-        ensures err { OnErr result ((self.new ≡ self.old) × (regs.new ≡ regs.old)) }
-        ensures undone { IfOk result (λ acted. ChangesNothing acted regs.old regs.new self.old self.new) }
-        ensures memory { length self.new.words ≡ length self.old.words }
-    {
-        let Some(word) = image.fetch(regs.pc()) else {
-            return Ok(Acted::Faulted(GuestFault::FetchOutside));
-        };
-        let Some(instr) = decode(word) else {
-            return Ok(Acted::Faulted(GuestFault::Illegal));
-        };
-        let effect = begin(regs, &instr);
-        match effect {
-            Effect::Local => Ok(Acted::Done(None)),
-            Effect::Call => Ok(Acted::Called),
-            Effect::Fault(fault) => Ok(Acted::Faulted(fault)),
-            Effect::Load { addr, .. }
-            | Effect::Store { addr, .. }
-            | Effect::Amo { addr, .. }
-            | Effect::Reserve { addr, .. }
-            | Effect::Conditional { addr, .. } => {
-                self.at_address(image, tid, regs, &instr, effect, addr)
-            }
-        }
-    }
-}
-
-// An instruction that touches memory that isn't writable.
-fn at_constant(regs: &mut Regs, instr: &Instr, effect: Effect, word: u64) -> Acted
-    requires instr { IsInstr instr.now }
-    requires placed { IsPlaced effect }
-    ensures undone { (m : GuestMemory) → ChangesNothing result regs.old regs.new m m }
-    ensures acted { (m : GuestMemory) → memory.constant_action regs.old m instr.now effect word ≡ record { registers = regs.new; memory = m; acted = result } }
-{
-    match effect {
-        Effect::Load { addr, size } => {
-            finish(regs, instr, field(word, offset(addr), size));
-            Acted::Done(None)
-        }
-        Effect::Store { .. }
-        | Effect::Amo { .. }
-        | Effect::Reserve { .. }
-        | Effect::Conditional { .. } => Acted::Faulted(GuestFault::ReadOnly),
-        Effect::Local | Effect::Call | Effect::Fault(_) => Acted::Faulted(GuestFault::ReadOnly),
+        Ok(touched.value)
     }
 }

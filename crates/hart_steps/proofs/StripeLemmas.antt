@@ -19,16 +19,17 @@ use Rattle.shared_table.proofs.Dealing.{counted}
 use Rattle.turn_orders.specs.Machine.{but}
 use Rattle.turn_orders.proofs.Functions.{but_here, but_else}
 use Rattle.place_turns.specs.Places.{Stripe, Value, stripe_at, of_stripe}
-use Rattle.place_turns.specs.Requests.{request}
+use Rattle.bare_machine.specs.Requests.{request}
 use Rattle.place_turns.specs.Turns.{Turned, served, stripe_reserved, stripe_written, touch_turn, operate_turn}
 use Rattle.place_turns.specs.Wholes.{first_stripe}
 use Rattle.place_turns.proofs.Lists.{index_set_same, index_set_other}
-use Rattle.hart_steps.specs.declared.request.Touch.{Touch}
-use Rattle.hart_steps.specs.declared.request.Operation.{Operation}
-use Rattle.hart_steps.specs.declared.request.Request.{Request}
-use Rattle.hart_steps.specs.declared.request.Request.TheVariants as kinds
+use Rattle.bare_machine.specs.declared.request.Touch.{Touch}
+use Rattle.bare_machine.specs.declared.request.Operation.{Operation}
+use Rattle.bare_machine.specs.declared.request.Request.{Request}
+use Rattle.bare_machine.specs.declared.request.Request.TheVariants as kinds
 use Rattle.hart_steps.specs.declared.hart.Hart.{Hart}
-use Rattle.hart_steps.specs.Asked.{asked, IsWithin, granule_in}
+use Rattle.bare_machine.specs.Asked.{asked, IsWithin}
+use Rattle.hart_steps.specs.Asked.{granule_in}
 use Rattle.hart_steps.specs.Harts.{local_of, turn, leaves}
 use Rattle.hart_steps.specs.Stripes.{words_of, stripe_value, IsIndexOf, AreFirst, words_written, reservations_written, settled, Left, touch_left, touched_by, touches, operate_left, operates}
 
@@ -123,42 +124,42 @@ module _ (file : List ℕ) (h : Hart) (words : List ℕ) (rs : List Reservation)
   at_granule n = record { words = words_of file (stripe_at file n) words; reservations = rs }
 
   touch_with : (t : ℕ) (r : Touch) → r.granule < granules_of file → IsIndexOf file r.granule words index → (made : Touched) →
-      touch_turn t (local_of h) (at_granule r.granule) r.thread r.instr r.effect r.granule made ≡ left_turn file (stripe_at file r.granule) (touch_left t h words rs index r made)
+      touch_turn t (local_of h) (at_granule r.granule) h.thread r.instr r.effect r.granule made ≡ left_turn file (stripe_at file r.granule) (touch_left t h words rs index r made)
   touch_with t r below is made =
       ap (λ (v : Value). record (left_turn file (stripe_at file r.granule) (touch_left t h words rs index r made)) { value = v }) (changed_is file r.granule index words below is t rs r.effect made.written)
 
   -- what a touch of a granule leaves is its turn
   touch_is : (harts t : ℕ) (r : Touch) → r.granule < granules_of file → IsIndexOf file r.granule words index →
-      served harts t (local_of h) (of_stripe (at_granule r.granule)) (asked (kinds.Touch r)) ≡ left_turn file (stripe_at file r.granule) (touches t h words rs index r)
+      served harts t (local_of h) (of_stripe (at_granule r.granule)) h.thread (asked h.thread.regs (kinds.Touch r)) ≡ left_turn file (stripe_at file r.granule) (touches t h words rs index r)
   touch_is harts t r below is =
-      ap (λ (word : ℕ). touch_turn t (local_of h) (at_granule r.granule) r.thread r.instr r.effect r.granule (touched_by t h rs r word)) (word_here file r.granule index words below is words)
+      ap (λ (word : ℕ). touch_turn t (local_of h) (at_granule r.granule) h.thread r.instr r.effect r.granule (touched_by t h rs r word)) (word_here file r.granule index words below is words)
       ∙ touch_with t r below is (touched_by t h rs r (slice_index words index))
 
   operate_with : (r : Operation) → r.granule < granules_of file → IsIndexOf file r.granule words index → (word : ℕ) →
-      operate_turn (local_of h) (at_granule r.granule) r.thread r.call r.addr r.size r.granule word ≡ left_turn file (stripe_at file r.granule) (operate_left h words rs index r word)
+      operate_turn (local_of h) (at_granule r.granule) h.thread r.call r.addr r.size r.granule word ≡ left_turn file (stripe_at file r.granule) (operate_left h words rs index r word)
   operate_with r below is word =
       ap (λ (v : Value). record (left_turn file (stripe_at file r.granule) (operate_left h words rs index r word)) { value = v })
       (written_is file r.granule index words below is rs (option_map (with_field word (offset r.addr) r.size) (word_by r.call (field word (offset r.addr) r.size))))
 
   -- and so is what an atomic call leaves
   operate_is : (harts t : ℕ) (r : Operation) → r.granule < granules_of file → IsIndexOf file r.granule words index →
-      served harts t (local_of h) (of_stripe (at_granule r.granule)) (asked (kinds.Operate r)) ≡ left_turn file (stripe_at file r.granule) (operates h words rs index r)
+      served harts t (local_of h) (of_stripe (at_granule r.granule)) h.thread (asked h.thread.regs (kinds.Operate r)) ≡ left_turn file (stripe_at file r.granule) (operates h words rs index r)
   operate_is harts t r below is =
-      ap (λ (word : ℕ). operate_turn (local_of h) (at_granule r.granule) r.thread r.call r.addr r.size r.granule word) (word_here file r.granule index words below is words)
+      ap (λ (word : ℕ). operate_turn (local_of h) (at_granule r.granule) h.thread r.call r.addr r.size r.granule word) (word_here file r.granule index words below is words)
       ∙ operate_with r below is (slice_index words index)
 
 -- a request is served from this state to what is left
 abbrev pub Serves : ℕ → Hart → List ℕ → List Reservation → ℕ → Left → Request → Type 0
-Serves t h words rs index left r = (file : List ℕ) (harts : ℕ) → asked r ≡ request file t h.thread → IsWithin file r → IsIndexOf file (granule_in r) words index →
+Serves t h words rs index left r = (file : List ℕ) (harts : ℕ) → asked h.thread.regs r ≡ request file t h.thread → IsWithin file r → IsIndexOf file (granule_in r) words index →
     turn file harts t h (stripe_value file (stripe_at file (granule_in r)) words rs) ≡ left_turn file (stripe_at file (granule_in r)) left
 
 module _ (t : ℕ) (h : Hart) (words : List ℕ) (rs : List Reservation) (index : ℕ) (left : Left) where
   pub touch_serves : (r : Request) (touch : Touch) → r ≡ kinds.Touch touch → touches t h words rs index touch ≡ left → Serves t h words rs index left r
   touch_serves r touch is made = subst (Serves t h words rs index left) (sym is) (λ file harts e within at.
-      ap (served harts t (local_of h) (stripe_value file (stripe_at file touch.granule) words rs)) (sym e)
+      ap (served harts t (local_of h) (stripe_value file (stripe_at file touch.granule) words rs) h.thread) (sym e)
       ∙ (touch_is file h words rs index harts t touch within at ∙ ap (left_turn file (stripe_at file touch.granule)) made))
 
   pub operate_serves : (r : Request) (op : Operation) → r ≡ kinds.Operate op → operates h words rs index op ≡ left → Serves t h words rs index left r
   operate_serves r op is made = subst (Serves t h words rs index left) (sym is) (λ file harts e within at.
-      ap (served harts t (local_of h) (stripe_value file (stripe_at file op.granule) words rs)) (sym e)
+      ap (served harts t (local_of h) (stripe_value file (stripe_at file op.granule) words rs) h.thread) (sym e)
       ∙ (operate_is file h words rs index harts t op within at ∙ ap (left_turn file (stripe_at file op.granule)) made))

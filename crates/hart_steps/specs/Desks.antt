@@ -3,8 +3,8 @@ use Rattle.std.specs.Prelude.{◌≡◌, ℕ, ◌<◌, ◌==◌, ◌||◌, nat_l
 use Rattle.bare_machine.specs.declared.thread.Thread.{Thread}
 use Rattle.place_turns.specs.Places.{Desk, Value, of_desk}
 use Rattle.hart_steps.specs.declared.desk.MachineDesk.{MachineDesk}
-use Rattle.hart_steps.specs.declared.request.Request.{Request}
-use Rattle.hart_steps.specs.declared.request.Request.TheVariants as kinds
+use Rattle.bare_machine.specs.declared.request.Request.{Request}
+use Rattle.bare_machine.specs.declared.request.Request.TheVariants as kinds
 
 -- the desk where these threads live, by number
 abbrev pub desk_with : MachineDesk → List Bool → Desk
@@ -19,7 +19,7 @@ is_full harts living made = nat_le harts living || (length made == 1024)
 
 -- a join is told whether its thread lives, if it was made
 abbrev pub IsJoinedOf : Request → List Bool → Option Bool → Type 0
-IsJoinedOf (kinds.Join x of) lives joined = joined ≡ slice_get lives of
+IsJoinedOf (kinds.Join of) lives joined = joined ≡ slice_get lives of
 IsJoinedOf _ lives joined = Unit {0}
 
 -- what is told of the threads that live
@@ -29,11 +29,11 @@ pub record IsToldOf (r : Request) (lives : List Bool) (living : ℕ) (joined : O
 
 -- a thread that was made and has ended is one of the first 1,024
 abbrev pub IsKnown : Request → Option Bool → Type 0
-IsKnown (kinds.Join x of) joined = joined ≡ Some false → of < 1024
+IsKnown (kinds.Join of) joined = joined ≡ Some false → of < 1024
 IsKnown _ joined = Unit {0}
 
 -- which threads live after a request: a new one does, and one that stops does not
 abbrev pub lives_after : ℕ → Bool → Request → List Bool → List Bool
-lives_after t full (kinds.Create x pc argument stack) lives = if full then lives else lives ++ true ∷ []
-lives_after t full (kinds.Stop x end) lives = slice_set lives t false
+lives_after t full (kinds.Create pc argument stack) lives = if full then lives else lives ++ true ∷ []
+lives_after t full (kinds.Stop end) lives = slice_set lives t false
 lives_after t full _ lives = lives

@@ -16,8 +16,8 @@ use Rattle.bare_machine.specs.Step.{first_events, answered, outcome, with_regist
 use Rattle.shared_table.specs.Layouts.{place_in, size_in}
 use Rattle.place_turns.specs.Places.{Value, of_stripe, stripe_at, reserves}
 use Rattle.place_turns.specs.Turns.{reserved_after}
-use Rattle.hart_steps.specs.declared.request.Touch.{Touch}
-use Rattle.hart_steps.specs.declared.request.Operation.{Operation}
+use Rattle.bare_machine.specs.declared.request.Touch.{Touch}
+use Rattle.bare_machine.specs.declared.request.Operation.{Operation}
 use Rattle.hart_steps.specs.declared.hart.Hart.{Hart}
 
 -- The words by granule, of which stripe k keeps its own in a list, by rising granule. Of the granules of other stripes it has
@@ -65,7 +65,7 @@ pub record Left : Type 0 where
 
 abbrev pub touch_left : ℕ → Hart → List ℕ → List Reservation → ℕ → Touch → Touched → Left
 touch_left t h words reservations index r made =
-    let after : Thread = with_registers r.thread (finished_by r.instr.op r.instr r.thread.regs made.value) in
+    let after : Thread = with_registers h.thread (finished_by r.instr.op r.instr h.thread.regs made.value) in
     record {
       hart = record { thread = record after { began = true }; reserved = reserved_after h.reserved r.granule r.effect };
       words = words_written words index made.written;
@@ -84,13 +84,13 @@ abbrev pub operate_left : Hart → List ℕ → List Reservation → ℕ → Ope
 operate_left h words reservations index r word =
     let old = field word (offset r.addr) r.size in
     let stored = word_by r.call old in
-    let after : Thread = answered r.thread (answer_by r.call old) in
+    let after : Thread = answered h.thread (answer_by r.call old) in
     let written = option_map (with_field word (offset r.addr) r.size) stored in
     record {
       hart = record h { thread = record after { began = true } };
       words = words_written words index written;
       reservations = reservations_written reservations r.granule written;
-      events = first_events after ++ events_by r.call (outcome r.thread (is_some stored) 0);
+      events = first_events after ++ events_by r.call (outcome h.thread (is_some stored) 0);
     }
 
 abbrev pub operates : Hart → List ℕ → List Reservation → ℕ → Operation → Left

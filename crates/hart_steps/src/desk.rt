@@ -1,18 +1,19 @@
 // Requests that use the desk.
-ghost use Rattle.std.specs.Prelude.{◌≡◌, ℕ, ◌<◌, ◌≤◌, ◌∷◌, ◌++◌, true, false, Bool, [], Some, List, length, slice_set, if◌then◌else◌, IfOk, OnErr};
+ghost use Rattle.std.specs.Prelude.{◌≡◌, ℕ, ◌<◌, ◌≤◌, ◌∷◌, ◌++◌, true, false, Bool, [], Some, List, length, slice_set, if◌then◌else◌, OnOk, OnErr};
 ghost use Rattle.entry_calls.specs.declared.call.Outcome.{Outcome};
 ghost use Rattle.entry_calls.specs.Effects.{IsAnswered};
 ghost use Rattle.place_turns.specs.Places as places;
 ghost use Rattle.place_turns.specs.Turns as turns;
-ghost use Rattle.place_turns.specs.Requests as requests;
-ghost use Rattle.hart_steps.specs.Asked.{asked, IsSound, UsesDesk};
+ghost use Rattle.bare_machine.specs.Requests as requests;
+ghost use Rattle.bare_machine.specs.Asked.{asked, IsSound};
+ghost use Rattle.hart_steps.specs.Asked.{UsesDesk};
 ghost use Rattle.hart_steps.specs.Harts.{local_of, turn, leaves};
 ghost use Rattle.hart_steps.specs.Desks as desks;
 ghost use Rattle.hart_steps.specs.Desks.{desk_with, desk_value, lives_after, IsToldOf, IsKnown};
 
-use crate::{Hart, Request};
-use bare_machine::{Thread, answer_thread, events_before, first_end, minus, new_thread, outcome};
-use entry_calls::{Call, CallEvents, events_of};
+use crate::Hart;
+use bare_machine::{Request, Thread, begin_thread, finish_call, first_end, minus, new_thread};
+use entry_calls::{Call, CallEvents};
 use run_record::{Bytes, Event, GuestEnd, Items, NoMemory};
 
 /// What the machine has at the desk: the threads by number as they were made, the bytes that were put, and the first
@@ -49,47 +50,47 @@ fn join_answer(joined: Option<bool>) -> u64
 
 impl Hart {
     // A call at the desk is done, with this answer.
-    fn answer(&mut self, thread: &Thread, call: &Call, answer: u64) -> CallEvents
-        requires { (o : Outcome) → o.answer ≡ answer → IsAnswered call.now o }
-        ensures { (d : places.Desk) → turns.returns (local_of self.old) thread.now call.now answer d ≡ leaves self.new (places.of_desk d) result }
+    fn answer(&mut self, call: &Call, answer: u64, events: &mut CallEvents)
+        requires answered { (o : Outcome) → o.answer ≡ answer → IsAnswered call.now o }
+        requires empty { events.old ≡ [] }
+        ensures { (d : places.Desk) → turns.returns (local_of self.old) self.old.thread call.now answer d ≡ leaves self.new (places.of_desk d) events.new }
     {
-        let told = outcome(thread, false, answer);
-        let own = events_of(call, &told);
-        let mut after = *thread;
-        answer_thread(&mut after, Some(answer));
-        self.go_on(&after, &own)
+        finish_call(&mut self.thread, call, false, answer, Some(answer), events);
     }
 
     // The low bytes of a word, so many, go to the output.
     fn put(
         &mut self,
-        thread: &Thread,
         value: u64,
         count: u8,
         desk: &mut MachineDesk,
-    ) -> Result<CallEvents, NoMemory>
-        requires { count ≤ 8 }
-        ensures ok { IfOk result (λ es. (lives : List Bool) → turns.put_turn (local_of self.old) (desk_with desk.old lives) thread.now value count ≡ leaves self.new (desk_value desk.new lives) es) }
+        events: &mut CallEvents,
+    ) -> Result<(), NoMemory>
+        requires count { count ≤ 8 }
+        requires empty { events.old ≡ [] }
+        ensures ok { OnOk result ((lives : List Bool) → turns.put_turn (local_of self.old) (desk_with desk.old lives) self.old.thread value count ≡ leaves self.new (desk_value desk.new lives) events.new) }
         ensures made { desk.new.made ≡ desk.old.made }
         ensures err { OnErr result ((self.new ≡ self.old) × (desk.new ≡ desk.old)) }
     {
         let bytes = value.to_le_bytes();
         desk.output.extend_from_slice(&bytes[..count as usize])?;
-        Ok(self.answer(thread, &Call::Put { value, count }, 0))
+        self.answer(&Call::Put { value, count }, 0, events);
+        Ok(())
     }
 
     // The new thread gets the next number, unless the desk is full.
     fn create(
         &mut self,
-        thread: &Thread,
         pc: u64,
         argument: u64,
         stack: u64,
         full: bool,
         desk: &mut MachineDesk,
-    ) -> Result<CallEvents, NoMemory>
-        requires { full ≡ false → length desk.old.made < 1024 }
-        ensures ok { IfOk result (λ es. (lives : List Bool) → turns.create_turn (local_of self.old) (desk_with desk.old lives) thread.now pc argument stack full ≡ leaves self.new (desk_value desk.new (if full then lives else lives ++ true ∷ [])) es) }
+        events: &mut CallEvents,
+    ) -> Result<(), NoMemory>
+        requires room { full ≡ false → length desk.old.made < 1024 }
+        requires empty { events.old ≡ [] }
+        ensures ok { OnOk result ((lives : List Bool) → turns.create_turn (local_of self.old) (desk_with desk.old lives) self.old.thread pc argument stack full ≡ leaves self.new (desk_value desk.new (if full then lives else lives ++ true ∷ [])) events.new) }
         ensures few { length desk.old.made ≤ 1024 → length desk.new.made ≤ 1024 }
         ensures err { OnErr result ((self.new ≡ self.old) × (desk.new ≡ desk.old)) }
     {
@@ -99,33 +100,34 @@ impl Hart {
             sp: stack,
         };
         if full {
-            return Ok(self.answer(thread, &call, minus(11)));
+            self.answer(&call, minus(11), events);
+            return Ok(());
         }
         let number = desk.made.len() as u64;
         desk.made.push(new_thread(pc, argument, stack))?;
-        Ok(self.answer(thread, &call, number))
+        self.answer(&call, number, events);
+        Ok(())
     }
 
     // A thread is joined, or told why not.
-    fn join(&mut self, thread: &Thread, of: u64, joined: Option<bool>) -> CallEvents
-        requires { joined ≡ Some false → of < 1024 }
-        ensures { (d : places.Desk) → turns.returns (local_of self.old) thread.now (Call.Join of) (turns.join_answer joined) d ≡ leaves self.new (places.of_desk d) result }
+    fn join(&mut self, of: u64, joined: Option<bool>, events: &mut CallEvents)
+        requires known { joined ≡ Some false → of < 1024 }
+        requires empty { events.old ≡ [] }
+        ensures { (d : places.Desk) → turns.returns (local_of self.old) self.old.thread (Call.Join of) (turns.join_answer joined) d ≡ leaves self.new (places.of_desk d) events.new }
     {
-        self.answer(thread, &Call::Join { tid: of }, join_answer(joined))
+        self.answer(&Call::Join { tid: of }, join_answer(joined), events);
     }
 
     // The thread ends, and with it the run where this is its first exit or fault.
-    fn stop(&mut self, thread: &Thread, end: Option<GuestEnd>, desk: &mut MachineDesk) -> CallEvents
-        ensures turn { (tid : ℕ) (lives : List Bool) → turns.stop_turn tid (local_of self.old) (desk_with desk.old lives) thread.now end ≡ leaves self.new (desk_value desk.new (slice_set lives tid false)) result }
+    fn stop(&mut self, end: Option<GuestEnd>, desk: &mut MachineDesk, events: &mut CallEvents)
+        requires { events.old ≡ [] }
+        ensures turn { (tid : ℕ) (lives : List Bool) → turns.stop_turn tid (local_of self.old) (desk_with desk.old lives) self.old.thread end ≡ leaves self.new (desk_value desk.new (slice_set lives tid false)) events.new }
         ensures made { desk.new.made ≡ desk.old.made }
     {
-        let mut events = events_before(thread);
+        begin_thread(&mut self.thread, events);
         events.push(Event::End);
-        self.thread = *thread;
         self.thread.lives = false;
-        self.thread.began = true;
         desk.ended = first_end(desk.ended, end);
-        events
     }
 
     /// Serves a request that uses the desk, where `harts` threads may live at once and so many live. Of a thread that is to be
@@ -138,35 +140,38 @@ impl Hart {
         living: u32,
         joined: Option<bool>,
         desk: &mut MachineDesk,
-    ) -> Result<CallEvents, NoMemory>
+        events: &mut CallEvents,
+    ) -> Result<(), NoMemory>
         requires desk { UsesDesk request.now }
         requires sound { IsSound request.now }
         requires few { length desk.old.made ≤ 1024 }
         requires known { IsKnown request.now joined }
-        ensures ok { IfOk result (λ es. (file : List ℕ) (lives : List Bool) → asked request.now ≡ requests.request file tid self.old.thread →
+        requires empty { events.old ≡ [] }
+        ensures ok { OnOk result ((file : List ℕ) (lives : List Bool) → asked self.old.thread.regs request.now ≡ requests.request file tid self.old.thread →
             IsToldOf request.now lives living joined →
             turn file harts tid self.old (desk_value desk.old lives)
-            ≡ leaves self.new (desk_value desk.new (lives_after tid (desks.is_full harts living desk.old.made) request.now lives)) es) }
+            ≡ leaves self.new (desk_value desk.new (lives_after tid (desks.is_full harts living desk.old.made) request.now lives)) events.new) }
         ensures few { length desk.new.made ≤ 1024 }
         ensures err { OnErr result ((self.new ≡ self.old) × (desk.new ≡ desk.old)) }
     {
         match request {
-            Request::Put {
-                thread,
-                value,
-                count,
-            } => self.put(thread, *value, *count, desk),
+            Request::Put { value, count } => self.put(*value, *count, desk, events),
             Request::Create {
-                thread,
                 pc,
                 argument,
                 stack,
             } => {
                 let full = desk.is_full(harts, living);
-                self.create(thread, *pc, *argument, *stack, full, desk)
+                self.create(*pc, *argument, *stack, full, desk, events)
             }
-            Request::Join { thread, of } => Ok(self.join(thread, *of, joined)),
-            Request::Stop { thread, end } => Ok(self.stop(thread, *end, desk)),
+            Request::Join { of } => {
+                self.join(*of, joined, events);
+                Ok(())
+            }
+            Request::Stop(end) => {
+                self.stop(*end, desk, events);
+                Ok(())
+            }
             _ => unreachable!(),
         }
     }

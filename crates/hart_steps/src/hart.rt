@@ -1,15 +1,17 @@
 // A thread's own state.
-ghost use Rattle.std.specs.Prelude.{◌≡◌, ℕ, ◌<◌, ◌≤◌, ◌++◌, true, [], Bool, List, length};
-ghost use Rattle.bare_machine.specs.Step.{first_events};
+ghost use Rattle.std.specs.Prelude.{◌≡◌, ℕ, ◌<◌, [], Bool, List, Some, length, slice_get};
+ghost use Rattle.bare_machine.specs.World.{World};
+ghost use Rattle.bare_machine.specs.Preview as previews;
+ghost use Rattle.bare_machine.specs.Asked.{IsSound, IsShallow, IsWithin};
 ghost use Rattle.place_turns.specs.Places.{Value};
 ghost use Rattle.place_turns.specs.Turns.{bare_turn, arrives};
-ghost use Rattle.place_turns.specs.Requests as requests;
-ghost use Rattle.hart_steps.specs.Asked.{asked, IsSound, IsAlone};
+ghost use Rattle.hart_steps.specs.Asked.{Asks, IsAlone};
 ghost use Rattle.hart_steps.specs.Harts.{absent, local_of, turn, leaves};
 ghost use Rattle.hart_steps.specs.Desks.{desk_value};
 
-use crate::{MachineDesk, Request};
-use bare_machine::{Thread, events_before};
+use crate::MachineDesk;
+use bare_machine::{Request, Thread, begin_thread, return_thread};
+use elf_image::Image;
 use entry_calls::CallEvents;
 
 /// What a thread that has arrived keeps itself: its registers and how far it is, and the granule that it reserved last,
@@ -32,27 +34,35 @@ impl Hart {
         }
     }
 
-    // The thread goes on as this one, with its own events behind those that it has before.
-    pub(crate) fn go_on(&mut self, thread: &Thread, own: &CallEvents) -> CallEvents
-        requires { length own.now ≤ 3 }
-        ensures hart { self.new ≡ record self.old { thread = record thread.now { began = true } } }
-        ensures events { result ≡ first_events thread.now ++ own.now }
+    /// What the thread's next instruction comes to. If it is done then, the thread has its registers, and else it is as it
+    /// was. It takes no memory, and reads none that is written.
+    pub fn ask(&mut self, image: &Image<'_>, tid: u32) -> Request
+        ensures asks { Asks image.now tid self.old self.new result }
+        ensures sound { IsSound result }
+        ensures shallow { IsShallow result self.new.thread.depth }
+        ensures within { IsWithin image.now result }
     {
-        let mut events = events_before(thread);
-        events.append(own);
-        self.thread = *thread;
-        self.thread.began = true;
-        events
+        Request::of(image, tid, &mut self.thread)
     }
 
-    /// Serves the request of this thread where its object, if it has one, stays as it is: whatever the value of the place.
-    pub fn serve_alone(&mut self, request: &Request) -> CallEvents
+    /// Whether only a thread with a slot makes this instruction, which it has asked for.
+    pub fn needs_slot(&self, request: &Request) -> bool
+        ensures { (file : List ℕ) (tid : ℕ) (w : World) (before : Hart) → Asks file tid before self.now request.now → slice_get w.threads tid ≡ Some before.thread → result ≡ previews.needs_slot file w tid }
+    {
+        !self.thread.began || request.needs_slot()
+    }
+
+    /// Serves what this thread has asked for where its object, if it has one, stays as it is: whatever the value of the place.
+    pub fn serve_alone(&mut self, request: &Request, events: &mut CallEvents)
         requires alone { IsAlone request.now }
+        requires empty { events.old ≡ [] }
         requires sound { IsSound request.now }
-        ensures { (file : List ℕ) (harts tid : ℕ) (v : Value) → asked request.now ≡ requests.request file tid self.old.thread → turn file harts tid self.old v ≡ leaves self.new v result }
+        requires shallow { IsShallow request.now self.old.thread.depth }
+        ensures { (file : List ℕ) (harts tid : ℕ) (v : Value) (before : Hart) → Asks file tid before self.old request.now → turn file harts tid before v ≡ leaves self.new v events.new }
     {
         match request {
-            Request::GoOn { thread, events, .. } => self.go_on(thread, events),
+            Request::Done => begin_thread(&mut self.thread, events),
+            Request::Return(request) => return_thread(&mut self.thread, request, events),
             _ => unreachable!(),
         }
     }

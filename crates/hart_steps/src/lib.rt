@@ -1,6 +1,6 @@
 //! One thread's instructions, by what the thread keeps itself and by one object at a time.
 //!
-//! `Request::of` says what the instruction at a thread's pc comes to, as far as the thread itself can tell, and
+//! `Hart::ask` says what the instruction at a thread's pc comes to, as far as the thread itself can tell, and
 //! `Request::object` which object it uses: a stripe of memory, the desk, or none. Three calls of `Hart` serve it: `serve_alone`
 //! where its object stays as it is, `serve_at_stripe` on a stripe's words and reservations, `serve_at_desk` on the threads, the
 //! output and the end. A thread begins by `Hart::arrive`. No call takes memory but for reservations, new threads and output.
@@ -11,18 +11,12 @@
 //! `bare_turn` from the state before to the state after, with its events. So the laws of `place_turns` hold of what workers make.
 #![tactic(auto)]
 
-mod asking;
 mod desk;
 mod hart;
 pub mod laws;
-mod operations;
-mod preview;
-mod request;
 mod stripe;
 #[cfg(test)]
 mod tests;
 
 pub use desk::MachineDesk;
 pub use hart::Hart;
-pub use preview::needs_slot;
-pub use request::{Operation, Request, Touch};

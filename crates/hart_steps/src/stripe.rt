@@ -1,17 +1,18 @@
 // Requests that use a granule.
-ghost use Rattle.std.specs.Prelude.{◌≡◌, ℕ, ◌<◌, List, length, OnOk, OnErr, IfOk};
+ghost use Rattle.std.specs.Prelude.{◌≡◌, ℕ, ◌<◌, [], List, length, OnOk, OnErr};
 ghost use Rattle.place_turns.specs.Places as places;
 ghost use Rattle.place_turns.specs.Turns as turns;
-ghost use Rattle.place_turns.specs.Requests as requests;
-ghost use Rattle.hart_steps.specs.Asked.{asked, IsSound, IsWithin, IsTouch, IsOperation, UsesGranule, granule_in};
+ghost use Rattle.bare_machine.specs.Requests as requests;
+ghost use Rattle.bare_machine.specs.Asked.{asked, IsSound, IsWithin, IsTouch, IsOperation};
+ghost use Rattle.hart_steps.specs.Asked.{UsesGranule, granule_in};
 ghost use Rattle.hart_steps.specs.Harts.{turn, leaves};
 ghost use Rattle.hart_steps.specs.Stripes as stripes;
 ghost use Rattle.hart_steps.specs.Stripes.{IsIndexOf, stripe_value};
 
-use crate::{Hart, Operation, Request, Touch};
+use crate::Hart;
 use bare_machine::touch::touch;
-use bare_machine::{answer_thread, offset, outcome, replaced};
-use entry_calls::{CallEvents, atomic_answer, atomic_word, events_of};
+use bare_machine::{Operation, Request, Touch, begin_thread, finish_call, offset, replaced};
+use entry_calls::{CallEvents, atomic_answer, atomic_word};
 use guest_memory::{Reservations, field};
 use run_record::NoMemory;
 use rv_exec::{Effect, finish};
@@ -88,10 +89,12 @@ impl Hart {
         words: &mut GuestWords,
         reserved: &mut Reservations,
         index: u32,
-    ) -> Result<CallEvents, NoMemory>
+        events: &mut CallEvents,
+    ) -> Result<(), NoMemory>
         requires index { index < length words.old }
         requires sound { IsTouch request.now }
-        ensures ok { IfOk result (λ es. stripes.touches tid self.old words.old reserved.old index request.now ≡ record { hart = self.new; words = words.new; reservations = reserved.new; events = es }) }
+        requires empty { events.old ≡ [] }
+        ensures ok { OnOk result (stripes.touches tid self.old words.old reserved.old index request.now ≡ record { hart = self.new; words = words.new; reservations = reserved.new; events = events.new }) }
         ensures err { OnErr result ((self.new ≡ self.old) × ((words.new ≡ words.old) × (reserved.new ≡ reserved.old))) }
         ensures size { length words.new ≡ length words.old }
     {
@@ -100,10 +103,10 @@ impl Hart {
         let touched = touch(request.instr.op, request.effect, words.get(index), holds);
         settle(reserved, tid, granule, request.effect)?;
         write(words, reserved, index, granule, touched.written);
-        let mut after = request.thread;
-        finish(&mut after.regs, &request.instr, touched.value);
+        begin_thread(&mut self.thread, events);
+        finish(&mut self.thread.regs, &request.instr, touched.value);
         self.reserved = reserved_after(self.reserved, granule, request.effect);
-        Ok(self.go_on(&after, &CallEvents::new()))
+        Ok(())
     }
 
     // An atomic call on a granule.
@@ -113,10 +116,12 @@ impl Hart {
         words: &mut GuestWords,
         reserved: &mut Reservations,
         index: u32,
-    ) -> CallEvents
+        events: &mut CallEvents,
+    )
         requires index { index < length words.old }
         requires sound { IsOperation request.now }
-        ensures value { stripes.operates self.old words.old reserved.old index request.now ≡ record { hart = self.new; words = words.new; reservations = reserved.new; events = result } }
+        requires empty { events.old ≡ [] }
+        ensures value { stripes.operates self.old words.old reserved.old index request.now ≡ record { hart = self.new; words = words.new; reservations = reserved.new; events = events.new } }
         ensures size { length words.new ≡ length words.old }
     {
         let word = words.get(index);
@@ -124,12 +129,17 @@ impl Hart {
         let stored = atomic_word(&request.call, old);
         let written = replaced(word, request.addr, request.size, stored);
         write(words, reserved, index, request.granule, written);
-        let told = outcome(&request.thread, stored.is_some(), 0);
-        let own = events_of(&request.call, &told);
-        let mut after = request.thread;
-        answer_thread(&mut after, atomic_answer(&request.call, old));
-        self.go_on(&after, &own)
+        let answer = atomic_answer(&request.call, old);
+        finish_call(
+            &mut self.thread,
+            &request.call,
+            stored.is_some(),
+            0,
+            answer,
+            events,
+        );
     }
+
     /// Serves a request that uses a granule, which is the one of this index among the words of its stripe. After want of memory
     /// nothing has changed.
     pub fn serve_at_stripe(
@@ -139,20 +149,25 @@ impl Hart {
         words: &mut GuestWords,
         reserved: &mut Reservations,
         index: u32,
-    ) -> Result<CallEvents, NoMemory>
+        events: &mut CallEvents,
+    ) -> Result<(), NoMemory>
         requires granule { UsesGranule request.now }
         requires sound { IsSound request.now }
         requires index { index < length words.old }
-        ensures ok { IfOk result (λ es. (file : List ℕ) (harts : ℕ) → asked request.now ≡ requests.request file tid self.old.thread → IsWithin file request.now →
+        requires empty { events.old ≡ [] }
+        ensures ok { OnOk result ((file : List ℕ) (harts : ℕ) → asked self.old.thread.regs request.now ≡ requests.request file tid self.old.thread → IsWithin file request.now →
             IsIndexOf file (granule_in request.now) words.old index →
             turn file harts tid self.old (stripe_value file (places.stripe_at file (granule_in request.now)) words.old reserved.old)
-            ≡ leaves self.new (stripe_value file (places.stripe_at file (granule_in request.now)) words.new reserved.new) es) }
+            ≡ leaves self.new (stripe_value file (places.stripe_at file (granule_in request.now)) words.new reserved.new) events.new) }
         ensures size { length words.new ≡ length words.old }
         ensures err { OnErr result ((self.new ≡ self.old) × ((words.new ≡ words.old) × (reserved.new ≡ reserved.old))) }
     {
         match request {
-            Request::Touch(touch) => self.touch(tid, touch, words, reserved, index),
-            Request::Operate(operation) => { Ok(self.operate(operation, words, reserved, index)) }
+            Request::Touch(request) => self.touch(tid, request, words, reserved, index, events),
+            Request::Operate(request) => {
+                self.operate(request, words, reserved, index, events);
+                Ok(())
+            }
             _ => unreachable!(),
         }
     }

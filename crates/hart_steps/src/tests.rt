@@ -1,6 +1,6 @@
 // Turns of threads on a file of a few instructions.
-use crate::{Hart, MachineDesk, Request, needs_slot};
-use bare_machine::new_thread;
+use crate::{Hart, MachineDesk};
+use bare_machine::{Request, new_thread};
 use elf_image::{Image, load};
 use entry_calls::CallEvents;
 use guest_memory::Reservations;
@@ -67,11 +67,12 @@ fn step_at_stripe(
     reserved: &mut Reservations,
 ) -> Result<u64, NoMemory> {
     hart.thread.regs.set_pc(pc);
-    let request = Request::of(image, tid, &hart.thread);
+    let request = hart.ask(image, tid);
+    let mut events = CallEvents::new();
     if words.len() > 0 {
         match request {
             Request::Touch(_) | Request::Operate(_) => {
-                hart.serve_at_stripe(tid, &request, words, reserved, 0)?;
+                hart.serve_at_stripe(tid, &request, words, reserved, 0, &mut events)?;
             }
             _ => return Ok(77),
         }
@@ -141,17 +142,21 @@ fn call_at_desk(
     hart.thread.regs.set(17, number);
     hart.thread.regs.set(10, arguments[0]);
     hart.thread.regs.set(11, arguments[1]);
-    let request = Request::of(image, 0, &hart.thread);
+    let request = hart.ask(image, 0);
+    let mut events = CallEvents::new();
     if desk.made.len() > 1024 {
         return Err(NoMemory);
     }
     match request {
-        Request::Put { .. } | Request::Create { .. } | Request::Stop { .. } => {
-            hart.serve_at_desk(0, 2, &request, 1, None, desk)
+        Request::Put { .. } | Request::Create { .. } | Request::Stop(_) => {
+            hart.serve_at_desk(0, 2, &request, 1, None, desk, &mut events)?;
         }
-        Request::Join { .. } => hart.serve_at_desk(0, 2, &request, 1, Some(true), desk),
-        _ => Err(NoMemory),
+        Request::Join { .. } => {
+            hart.serve_at_desk(0, 2, &request, 1, Some(true), desk, &mut events)?;
+        }
+        _ => return Err(NoMemory),
     }
+    Ok(events)
 }
 
 #[test]
@@ -198,10 +203,11 @@ fn calls_at_the_desk(rt: HostRuntime) -> Result<(), Fail> {
 // Whether the instruction needs a slot, and what it leaves in x5.
 fn step_alone(image: &Image<'_>, pc: u64, hart: &mut Hart) -> (bool, u64) {
     hart.thread.regs.set_pc(pc);
-    let needs = needs_slot(image, &hart.thread);
-    let request = Request::of(image, 0, &hart.thread);
-    if let Request::GoOn { .. } = request {
-        let _events = hart.serve_alone(&request);
+    let request = hart.ask(image, 0);
+    let needs = hart.needs_slot(&request);
+    let mut events = CallEvents::new();
+    if let Request::Done = request {
+        hart.serve_alone(&request, &mut events);
     }
     (needs, hart.thread.regs.get(5))
 }

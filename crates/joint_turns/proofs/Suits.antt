@@ -1,5 +1,5 @@
 -- The events of an instruction are those of the object that it uses.
-use Rattle.std.proofs.Common.{◌≡◌, ◌+◌, ℕ, Bool, true, false, cond, nat_le, nat_eq, List, [], ◌∷◌, ◌++◌, length, slice_get, Option, Some, None, refl}
+use Rattle.std.proofs.Common.{◌≡◌, ◌+◌, ℕ, Bool, true, false, cond, nat_le, nat_eq, List, [], ◌∷◌, ◌++◌, length, slice_get, Option, Some, None, refl, unwrap_or}
 use Rattle.std.specs.Prelude.{◌%◌, ◌==◌, is_some}
 use Rattle.run_record.specs.declared.event.Event.{Event}
 use Rattle.run_record.specs.declared.event.Event.TheVariants as events
@@ -21,11 +21,11 @@ use Rattle.entry_calls.specs.Calls.{call_of, before}
 use Rattle.entry_calls.specs.Effects.{events_by, only_if, acquires, releases, loading, storing, changing, atomic_events, full, word_by, answer_by}
 use Rattle.bare_machine.specs.declared.thread.Thread.{Thread}
 use Rattle.bare_machine.specs.Memory.{stripe, offset}
-use Rattle.bare_machine.specs.Step.{desk, first_events, answered, outcome, with_registers}
+use Rattle.bare_machine.specs.Requests.{Request, done, returned, touch, operate, put, create, join, stop, object_of, constant_request, request_at, memory_request, effect_request, instruction_request, word_request, told_request, call_request, operation_at, constant_operation, faulted, request}
+use Rattle.bare_machine.specs.Step.{desk, first_events, outcome}
 use Rattle.turn_orders.specs.Lists.{Each}
 use Rattle.turn_orders.proofs.Members.{each_append}
 use Rattle.place_turns.specs.Places.{Local, Value, stripe_in, desk_in}
-use Rattle.place_turns.specs.Requests.{Request, go_on, touch, operate, put, create, join, stop, object_of, constant_request, request_at, memory_request, effect_request, instruction_request, word_request, told_request, call_request, operation_at, constant_operation, returned_at, faulted, request}
 use Rattle.place_turns.specs.Turns.{served, is_full, create_turn, join_answer}
 
 -- The event may be one of an instruction that uses this object, where so many threads were made before.
@@ -41,10 +41,10 @@ Suits object made _ = Unit {0}
 abbrev pub AllSuit : Option ℕ → ℕ → List Event → Type 0
 AllSuit object made es = Each (Suits object made) es
 
--- those of a request that its thread alone tells
+-- those of a request that its thread alone tells, wherever it is called
 abbrev IsSuited : Request → Type 0
-IsSuited (go_on x es object) = (made : ℕ) → AllSuit object made es
-IsSuited (operate x call addr size g) = (wrote : Bool) (made : ℕ) → AllSuit (Some (stripe addr)) made (events_by call (outcome x wrote 0))
+IsSuited (returned call answer object) = (place made : ℕ) → AllSuit object made (events_by call (record { place = place; wrote = false; answer = unwrap_or answer 0 }))
+IsSuited (operate call addr size g) = (place : ℕ) (wrote : Bool) (made : ℕ) → AllSuit (Some (stripe addr)) made (events_by call (record { place = place; wrote = wrote; answer = 0 }))
 IsSuited _ = Unit {0}
 
 -- ---- atomic operations
@@ -89,19 +89,19 @@ module _ (file : List ℕ) (t : ℕ) (x : Thread) where
   access_suits true place addr size read made = tt
   access_suits false place addr size read made = (tt, tt)
 
-  enter_suits : (deep : Bool) (pc : ℕ) → IsSuited (cond deep (faulted t x StackDeep) (returned_at x (calls.Enter pc) (x.depth + 1)))
+  enter_suits : (deep : Bool) (pc : ℕ) → IsSuited (cond deep (faulted t x StackDeep) (returned (calls.Enter pc) None None))
   enter_suits true pc = tt
-  enter_suits false pc = λ made. (tt, tt)
+  enter_suits false pc = λ place made. (tt, tt)
 
   abbrev CallSuits : Call → ℕ → Type 0
-  CallSuits call addr = (wrote : Bool) (made : ℕ) → AllSuit (Some (stripe addr)) made (events_by call (outcome x wrote 0))
+  CallSuits call addr = (place : ℕ) (wrote : Bool) (answer made : ℕ) → AllSuit (Some (stripe addr)) made (events_by call (record { place = place; wrote = wrote; answer = answer }))
 
   constant_suits : (op : AtomicOp) (call : Call) (addr size word : ℕ) → CallSuits call addr → IsSuited (constant_operation t x op call addr size word)
-  constant_suits ops.Load call addr size word s = s false
+  constant_suits ops.Load call addr size word s = λ place made. s place false (unwrap_or (answer_by call (field word (offset addr) size)) 0) made
   constant_suits _ call addr size word s = tt
 
   operation_at_suits : (op : AtomicOp) (call : Call) (addr size : ℕ) (granule constant : Option ℕ) → CallSuits call addr → IsSuited (operation_at t x op call addr size granule constant)
-  operation_at_suits op call addr size (Some g) constant s = s
+  operation_at_suits op call addr size (Some g) constant s = λ place wrote made. s place wrote 0 made
   operation_at_suits op call addr size None (Some word) s = constant_suits op call addr size word s
   operation_at_suits op call addr size None None s = tt
 
@@ -115,28 +115,28 @@ module _ (file : List ℕ) (t : ℕ) (x : Thread) where
   call_suits (calls.Create pc argument stack) = tt
   call_suits calls.ThreadExit = tt
   call_suits (calls.Join of) = tt
-  call_suits calls.Yield = λ made. tt
-  call_suits (calls.Access addr size read) = λ made. access_suits (size == 0) (before (value x.regs 1)) addr size read made
+  call_suits calls.Yield = λ place made. tt
+  call_suits (calls.Access addr size read) = λ place made. access_suits (size == 0) place addr size read made
   call_suits (calls.Enter pc) = enter_suits (nat_le 4096 x.depth) pc
-  call_suits calls.Leave = λ made. (tt, tt)
+  call_suits calls.Leave = λ place made. (tt, tt)
   call_suits (calls.Atomic op size addr v expected order fail_order) =
-      operation_suits (addr % size == 0) op (calls.Atomic op size addr v expected order fail_order) addr size (λ wrote made. atomic_here made addr op wrote (before (value x.regs 1)) size order fail_order)
-  call_suits calls.Fence = λ made. tt
-  call_suits (calls.Acquire addr) = λ made. (refl, tt)
-  call_suits (calls.Release addr) = λ made. (refl, tt)
-  call_suits calls.MutexCreate = λ made. tt
-  call_suits (calls.MutexDestroy addr) = λ made. (refl, tt)
-  call_suits (calls.PostLock addr true) = λ made. (tt, (refl, tt))
-  call_suits (calls.PostLock addr false) = λ made. (tt, (refl, (refl, tt)))
-  call_suits (calls.PreUnlock addr true) = λ made. (tt, (refl, tt))
-  call_suits (calls.PreUnlock addr false) = λ made. (tt, (refl, tt))
+      operation_suits (addr % size == 0) op (calls.Atomic op size addr v expected order fail_order) addr size (λ place wrote answer made. atomic_here made addr op wrote place size order fail_order)
+  call_suits calls.Fence = λ place made. tt
+  call_suits (calls.Acquire addr) = λ place made. (refl, tt)
+  call_suits (calls.Release addr) = λ place made. (refl, tt)
+  call_suits calls.MutexCreate = λ place made. tt
+  call_suits (calls.MutexDestroy addr) = λ place made. (refl, tt)
+  call_suits (calls.PostLock addr true) = λ place made. (tt, (refl, tt))
+  call_suits (calls.PostLock addr false) = λ place made. (tt, (refl, (refl, tt)))
+  call_suits (calls.PreUnlock addr true) = λ place made. (tt, (refl, tt))
+  call_suits (calls.PreUnlock addr false) = λ place made. (tt, (refl, tt))
 
   told_suits : (o : Option Call) → IsSuited (told_request file t x o)
   told_suits None = tt
   told_suits (Some call) = call_suits call
 
   constant_request_suits : (i : Instr) (effect : Effect) (word : ℕ) → IsSuited (constant_request t x i effect word)
-  constant_request_suits i (effects.Load a n) word = λ made. tt
+  constant_request_suits i (effects.Load a n) word = tt
   constant_request_suits i _ word = tt
 
   request_at_suits : (i : Instr) (effect : Effect) (addr : ℕ) (granule constant : Option ℕ) → IsSuited (request_at t x i effect addr granule constant)
@@ -148,7 +148,7 @@ module _ (file : List ℕ) (t : ℕ) (x : Thread) where
   memory_suits i effect addr = request_at_suits i effect addr (granule_of file addr) (constant_word file addr)
 
   effect_suits : (i : Instr) (effect : Effect) → IsSuited (effect_request file t x i effect)
-  effect_suits i effects.Local = λ made. tt
+  effect_suits i effects.Local = tt
   effect_suits i effects.Call = told_suits (call_of x.regs)
   effect_suits i (effects.Fault fault) = tt
   effect_suits i (effects.Load a n) = memory_suits i (effects.Load a n) a
@@ -159,7 +159,7 @@ module _ (file : List ℕ) (t : ℕ) (x : Thread) where
 
 instruction_suits : (file : List ℕ) (t : ℕ) (x : Thread) (o : Option Instr) → IsSuited (instruction_request file t x o)
 instruction_suits file t x None = tt
-instruction_suits file t x (Some i) = let d = done_by i.op i x.regs in effect_suits file t (with_registers x d.registers) i d.effect
+instruction_suits file t x (Some i) = let d = done_by i.op i x.regs in effect_suits file t (record x { regs = d.registers }) i d.effect
 
 word_suits : (file : List ℕ) (t : ℕ) (x : Thread) (o : Option ℕ) → IsSuited (word_request file t x o)
 word_suits file t x None = tt
@@ -191,17 +191,18 @@ create_suits true l v x pc argument stack = first_suits (Some desk) (length (des
 create_suits false l v x pc argument stack =
     first_suits (Some desk) (length (desk_in v).made) x (cond (nat_eq (length (desk_in v).made) full) [] (events.Create (length (desk_in v).made) ∷ [])) (created_suits (nat_eq (length (desk_in v).made) full) (length (desk_in v).made))
 
-served_suits : (harts t : ℕ) (l : Local) (v : Value) (r : Request) → IsSuited r → AllSuit (object_of r) (length (desk_in v).made) (served harts t l v r).told
-served_suits harts t l v (go_on x es object) s = first_suits object (length (desk_in v).made) x es (s (length (desk_in v).made))
-served_suits harts t l v (touch x i effect addr n) s = first_suits (Some (stripe addr)) (length (desk_in v).made) x [] tt
-served_suits harts t l v (operate x call addr size n) s =
+served_suits : (harts t : ℕ) (l : Local) (v : Value) (x : Thread) (r : Request) → IsSuited r → AllSuit (object_of r) (length (desk_in v).made) (served harts t l v x r).told
+served_suits harts t l v x (done r) s = first_suits None (length (desk_in v).made) x [] tt
+served_suits harts t l v x (returned call answer object) s = first_suits object (length (desk_in v).made) x (events_by call (outcome x false (unwrap_or answer 0))) (s (before (value x.regs 1)) (length (desk_in v).made))
+served_suits harts t l v x (touch i effect addr n) s = first_suits (Some (stripe addr)) (length (desk_in v).made) x [] tt
+served_suits harts t l v x (operate call addr size n) s =
     let old : ℕ = field ((stripe_in v).words n) (offset addr) size in
     let wrote : Bool = is_some (word_by call old) in
-    first_suits (Some (stripe addr)) (length (desk_in v).made) (answered x (answer_by call old)) (events_by call (outcome x wrote 0)) (s wrote (length (desk_in v).made))
-served_suits harts t l v (put x word count) s = first_suits (Some desk) (length (desk_in v).made) x (events.Put word count ∷ []) (tt, tt)
-served_suits harts t l v (create x pc argument stack) s = create_suits (is_full harts (desk_in v)) l v x pc argument stack
-served_suits harts t l v (join x n) s = first_suits (Some desk) (length (desk_in v).made) x (cond (nat_eq (join_answer (slice_get (desk_in v).lives n)) 0) (events.Join n ∷ []) []) (joined_suits (nat_eq (join_answer (slice_get (desk_in v).lives n)) 0) (length (desk_in v).made) n)
-served_suits harts t l v (stop x end) s = first_suits (Some desk) (length (desk_in v).made) x (events.End ∷ []) (refl, tt)
+    first_suits (Some (stripe addr)) (length (desk_in v).made) x (events_by call (outcome x wrote 0)) (s (before (value x.regs 1)) wrote (length (desk_in v).made))
+served_suits harts t l v x (put word count) s = first_suits (Some desk) (length (desk_in v).made) x (events.Put word count ∷ []) (tt, tt)
+served_suits harts t l v x (create pc argument stack) s = create_suits (is_full harts (desk_in v)) l v x pc argument stack
+served_suits harts t l v x (join n) s = first_suits (Some desk) (length (desk_in v).made) x (cond (nat_eq (join_answer (slice_get (desk_in v).lives n)) 0) (events.Join n ∷ []) []) (joined_suits (nat_eq (join_answer (slice_get (desk_in v).lives n)) 0) (length (desk_in v).made) n)
+served_suits harts t l v x (stop end) s = first_suits (Some desk) (length (desk_in v).made) x (events.End ∷ []) (refl, tt)
 
-pub turn_suits : (file : List ℕ) (harts t : ℕ) (l : Local) (v : Value) (x : Thread) → AllSuit (object_of (request file t x)) (length (desk_in v).made) (served harts t l v (request file t x)).told
-turn_suits file harts t l v x = served_suits harts t l v (request file t x) (request_suits file t x)
+pub turn_suits : (file : List ℕ) (harts t : ℕ) (l : Local) (v : Value) (x : Thread) → AllSuit (object_of (request file t x)) (length (desk_in v).made) (served harts t l v x (request file t x)).told
+turn_suits file harts t l v x = served_suits harts t l v x (request file t x) (request_suits file t x)

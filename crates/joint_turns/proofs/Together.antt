@@ -11,13 +11,13 @@ use Rattle.elf_image.specs.File.{image_of}
 use Rattle.run_laws.specs.Moments.{Item, Does, Notes}
 use Rattle.bare_machine.specs.declared.thread.Thread.{Thread}
 use Rattle.bare_machine.specs.World.{World}
+use Rattle.bare_machine.specs.Requests.{object_of, request}
 use Rattle.bare_machine.specs.Step.{step, desk}
 use Rattle.turn_orders.specs.Machine.{Outcome, Call, State, but, after, single, singles}
 use Rattle.turn_orders.specs.Splits.{AllMay}
 use Rattle.turn_orders.proofs.Functions.{but_here, but_else, but_map, but_same}
 use Rattle.turn_orders.proofs.Many.{many_next}
 use Rattle.place_turns.specs.Places as machine
-use Rattle.place_turns.specs.Requests.{object_of, request}
 use Rattle.place_turns.specs.Turns as turns
 use Rattle.place_turns.specs.Wholes as wholes
 use Rattle.place_turns.specs.Wholes.{Whole, IsStateOf}

@@ -5,17 +5,17 @@ use Rattle.std.proofs.lemmas.Bool.{cases_Bool}
 use Rattle.run_record.specs.declared.event.Event.{Event}
 use Rattle.elf_image.specs.File.{image_of}
 use Rattle.bare_machine.specs.declared.thread.Thread.{Thread}
-use Rattle.bare_machine.specs.Step.{step, desk, thread_step}
+use Rattle.bare_machine.specs.Requests.{object_of, request}
+use Rattle.bare_machine.specs.Step.{Step, step, desk, thread_step}
 use Rattle.turn_orders.specs.Machine.{Call, State, but, next, after, tells}
 use Rattle.turn_orders.specs.Splits.{AllMay, folded}
 use Rattle.turn_orders.proofs.Functions.{but_same}
 use Rattle.place_turns.specs.Places.{Local, Desk, Value, IsAt}
-use Rattle.place_turns.specs.Requests.{object_of, request}
 use Rattle.place_turns.specs.Turns.{Turned, Act, arrives, steps, arrived, stepped, bare_turn}
 use Rattle.place_turns.specs.Wholes.{Whole, HasMemory, IsStateOf, May, MayAct, IsPlacedAct, ArePlaced, whole_after, whole_next, events_at, events_along, desk_of}
 use Rattle.place_turns.proofs.Threads.{take_thread}
-use Rattle.place_turns.proofs.States.{last, stripes, at_any, Serves}
-use Rattle.place_turns.proofs.Walk.{thread_is}
+use Rattle.place_turns.proofs.States.{last, stripes, at_any, Meets, Serves}
+use Rattle.place_turns.proofs.Serving.{request_is}
 
 -- an element inside a list
 record Found {X : Type 0} (xs : List X) (i : ℕ) : Type 0 where
@@ -61,12 +61,18 @@ module _ (file : List ℕ) (harts : ℕ) (ok : image_of file ≡ Ok file) where
     -- ---- an instruction
 
     module _ (x : Thread) (is : slice_get g.world.threads t ≡ Some x) (here : g.arrived t ≡ true) where
-      serves : Serves file harts g m t (step file g.world t) (request file t x)
-      serves = subst (λ (o : Option Thread). Serves file harts g m t (thread_step file g.world t o) (request file t x)) (sym is) (thread_is file harts ok g m h t x is here)
+      step_is : step file g.world t ≡ thread_step file g.world t (Some x)
+      step_is = ap (thread_step file g.world t) is
+
+      serves : Serves file harts g m t x (request file t x)
+      serves = request_is file harts ok g m h t x is here
+
+      object_here : (step file g.world t).object ≡ object_of (request file t x)
+      object_here = ap (λ (s : Step). s.object) step_is ∙ serves.object
 
       instruction : (k : ℕ) → IsAt k (step file g.world t).object → Goes g m t k steps
       instruction k e =
-          let met = serves.meets k (subst (IsAt k) serves.object e) in
+          let met = subst (λ (s : Step). Meets file harts g m t k s (stepped file harts t (m.local t) (m.value k) (Some x))) (sym step_is) (serves.meets k (subst (IsAt k) object_here e)) in
           let own : (m.local t).thread ≡ Some x = h.threads.here t here ∙ is in
           let turn = ap (stepped file harts t (m.local t) (m.value k)) own in
           record {
@@ -84,7 +90,7 @@ module _ (file : List ℕ) (harts : ℕ) (ok : image_of file ≡ Ok file) where
     is_here x e (inr a) = absurd (let n = h.threads.absent t a in cc)
 
     pub object_is : (x : Thread) → (m.local t).thread ≡ Some x → (step file g.world t).object ≡ object_of (request file t x)
-    object_is x e = let r = is_here x e (cases_Bool (g.arrived t)) in (serves x r.1 r.0).object
+    object_is x e = let r = is_here x e (cases_Bool (g.arrived t)) in object_here x r.1 r.0
 
     may_act : (k : ℕ) (a : Act) → IsPlacedAct file m t k a → MayAct file g t k a
     may_act k arrives p = (p.0, subst (λ (n : ℕ). t < n) h.threads.count p.1)

@@ -4,6 +4,5 @@ pub mod Reservations
 pub mod Memory
 pub mod States
 pub mod Serving
-pub mod Walk
 pub mod Calls
 pub mod First

@@ -1,11 +1,11 @@
 -- The state after a turn, from what its thread and its place are then.
 use Rattle.std.proofs.Common.{◌≡◌, ◌≢◌, ℕ, List, Option, sym, ap, subst, ◌∙◌, arith}
 use Rattle.bare_machine.specs.declared.thread.Thread.{Thread}
-use Rattle.bare_machine.specs.Step.{Step, desk}
+use Rattle.bare_machine.specs.Requests.{Request, object_of}
+use Rattle.bare_machine.specs.Step.{Step, desk, serve}
 use Rattle.turn_orders.specs.Machine.{State, but}
 use Rattle.turn_orders.proofs.Functions.{but_else, but_map, but_same}
 use Rattle.place_turns.specs.Places.{Local, Stripe, Desk, Value, of_stripe, of_desk, stripe_in, desk_in, IsAt, stripe_at}
-use Rattle.place_turns.specs.Requests.{Request, object_of}
 use Rattle.place_turns.specs.Turns.{Turned, served}
 use Rattle.place_turns.specs.Wholes.{Whole, HasThreads, HasMemory, IsStateOf, desk_of}
 use Rattle.place_turns.proofs.Memory.{stripes_alike}
@@ -71,7 +71,7 @@ pub record Meets (file : List ℕ) (harts : ℕ) (g : Whole) (m : State Local Va
   pub state : IsStateOf file harts (record g { world = s.world }) (record { local = but m.local t o.local; value = but m.value k o.value })
   pub told : s.events ≡ o.told
 
--- At the place of its object the request that is served comes to the step.
-pub record Serves (file : List ℕ) (harts : ℕ) (g : Whole) (m : State Local Value) (t : ℕ) (s : Step) (r : Request) : Type 0 where
-  pub object : s.object ≡ object_of r
-  pub meets : (k : ℕ) → IsAt k (object_of r) → Meets file harts g m t k s (served harts t (m.local t) (m.value k) r)
+-- At the place of its object the request that is served comes to what the world makes of it.
+pub record Serves (file : List ℕ) (harts : ℕ) (g : Whole) (m : State Local Value) (t : ℕ) (x : Thread) (r : Request) : Type 0 where
+  pub object : (serve g.world t x r).object ≡ object_of r
+  pub meets : (k : ℕ) → IsAt k (object_of r) → Meets file harts g m t k (serve g.world t x r) (served harts t (m.local t) (m.value k) x r)

@@ -1,4 +1,3 @@
 pub mod Places
-pub mod Requests
 pub mod Turns
 pub mod Wholes

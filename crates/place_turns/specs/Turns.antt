@@ -1,5 +1,5 @@
 -- One turn of a thread at one place.
-use Rattle.std.specs.Prelude.{ℕ, ◌||◌, ◌&&◌, ◌==◌, nat_le, Bool, true, false, if◌then◌else◌, List, [], ◌∷◌, ◌++◌, length, take, count_by, slice_get, slice_set, Option, Some, None, is_some, option_map}
+use Rattle.std.specs.Prelude.{ℕ, ◌||◌, ◌&&◌, ◌==◌, nat_le, Bool, true, false, if◌then◌else◌, List, [], ◌∷◌, ◌++◌, length, take, count_by, slice_get, slice_set, Option, Some, None, is_some, option_map, unwrap_or}
 use Rattle.std.specs.Int.{w64, to_le_bytes}
 use Rattle.run_record.specs.declared.event.Event.{Event}
 use Rattle.run_record.specs.declared.event.Event.TheVariants.{End}
@@ -17,10 +17,10 @@ use Rattle.bare_machine.specs.declared.thread.Thread.{Thread}
 use Rattle.bare_machine.specs.declared.touch.Touched.{Touched}
 use Rattle.bare_machine.specs.Memory.{offset, touched}
 use Rattle.bare_machine.specs.World.{new_thread}
-use Rattle.bare_machine.specs.Step.{first_events, first_of, answered, outcome, minus, with_registers}
+use Rattle.bare_machine.specs.Requests.{Request, done, returned, touch, operate, put, create, join, stop, request}
+use Rattle.bare_machine.specs.Step.{first_events, first_of, answered, depth_after, outcome, minus, with_registers}
 use Rattle.turn_orders.specs.Machine.{Outcome, Turn, but}
 use Rattle.place_turns.specs.Places.{Local, Stripe, Desk, Value, of_stripe, of_desk, stripe_in, desk_in, reserves}
-use Rattle.place_turns.specs.Requests.{Request, go_on, touch, operate, put, create, join, stop, request}
 
 -- what a turn leaves and which events it tells
 abbrev pub Turned : Type 0
@@ -104,15 +104,16 @@ stop_turn t l d x end =
 
 -- ---- turns
 
--- what a request comes to, where so many threads may live
-abbrev pub served : ℕ → ℕ → Local → Value → Request → Turned
-served harts t l v (go_on x es object) = goes_on l x es v
-served harts t l v (touch x i effect addr n) = touch_turn t l (stripe_in v) x i effect n (touched i.op effect ((stripe_in v).words n) (holds l (stripe_in v) t n))
-served harts t l v (operate x call addr size n) = operate_turn l (stripe_in v) x call addr size n ((stripe_in v).words n)
-served harts t l v (put x word count) = put_turn l (desk_in v) x word count
-served harts t l v (create x pc argument stack) = create_turn l (desk_in v) x pc argument stack (is_full harts (desk_in v))
-served harts t l v (join x n) = join_turn l (desk_in v) x n
-served harts t l v (stop x end) = stop_turn t l (desk_in v) x end
+-- what the request of thread x comes to, where so many threads may live
+abbrev pub served : ℕ → ℕ → Local → Value → Thread → Request → Turned
+served harts t l v x (done r) = goes_on l (with_registers x r) [] v
+served harts t l v x (returned call answer object) = goes_on l (record (answered x answer) { depth = depth_after call x.depth }) (events_by call (outcome x false (unwrap_or answer 0))) v
+served harts t l v x (touch i effect addr n) = touch_turn t l (stripe_in v) x i effect n (touched i.op effect ((stripe_in v).words n) (holds l (stripe_in v) t n))
+served harts t l v x (operate call addr size n) = operate_turn l (stripe_in v) x call addr size n ((stripe_in v).words n)
+served harts t l v x (put word count) = put_turn l (desk_in v) x word count
+served harts t l v x (create pc argument stack) = create_turn l (desk_in v) x pc argument stack (is_full harts (desk_in v))
+served harts t l v x (join n) = join_turn l (desk_in v) x n
+served harts t l v x (stop end) = stop_turn t l (desk_in v) x end
 
 -- a thread arrives at the desk, or makes one instruction
 pub data Act : Type 0 where
@@ -127,7 +128,7 @@ arrived t l d (Some x) = l
 -- one instruction of the thread; a thread that hasn't arrived does nothing
 abbrev pub stepped : List ℕ → ℕ → ℕ → Local → Value → Option Thread → Turned
 stepped file harts t l v None = record { local = l; value = v; told = [] }
-stepped file harts t l v (Some x) = served harts t l v (request file t x)
+stepped file harts t l v (Some x) = served harts t l v x (request file t x)
 
 -- The turn of a thread of the file's machine, of whose threads so many may live.
 abbrev pub bare_turn : List ℕ → ℕ → Turn Local Value Act (List Event)

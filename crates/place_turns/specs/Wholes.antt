@@ -6,10 +6,10 @@ use Rattle.guest_memory.specs.Reservations.{stands}
 use Rattle.bare_machine.specs.declared.thread.Thread.{Thread}
 use Rattle.bare_machine.specs.Memory.{GuestMemory}
 use Rattle.bare_machine.specs.World.{World, start, new_thread}
+use Rattle.bare_machine.specs.Requests.{object_of, request}
 use Rattle.bare_machine.specs.Step.{step, desk}
 use Rattle.turn_orders.specs.Machine.{Call, State, but, next}
 use Rattle.place_turns.specs.Places.{Local, Stripe, Desk, Value, of_stripe, of_desk, of_nobody, stripe_in, desk_in, IsAt, stripe_at, reserves}
-use Rattle.place_turns.specs.Requests.{object_of, request}
 use Rattle.place_turns.specs.Turns.{Act, arrives, steps, bare_turn}
 
 -- the world of the bare machine, and which threads have arrived

@@ -15,11 +15,11 @@
 ghost use Rattle.std.specs.Prelude.{◌≡◌, ℕ, List, Ok, Some};
 ghost use Rattle.elf_image.specs.File.{image_of};
 ghost use Rattle.bare_machine.specs.declared.thread.Thread.{Thread};
+ghost use Rattle.bare_machine.specs.Requests.{request, object_of};
 ghost use Rattle.bare_machine.specs.Step.{step};
 ghost use Rattle.turn_orders.specs.Machine.{Call, State, after, tells};
 ghost use Rattle.turn_orders.specs.Splits.{AllMay, folded};
 ghost use Rattle.place_turns.specs.Places.{Local, Value};
-ghost use Rattle.place_turns.specs.Requests.{request, object_of};
 ghost use Rattle.place_turns.specs.Turns.{Act, bare_turn};
 ghost use Rattle.place_turns.specs.Wholes.{Whole, May, ArePlaced, IsStateOf, whole_next, events_along, first_whole, first_state};
 

@@ -7,9 +7,9 @@ use Rattle.run_record.specs.declared.entry.DeskNote.TheVariants.{Nothing, Attach
 use Rattle.run_laws.specs.Moments.{Moment, entry_moments}
 use Rattle.run_laws.specs.Checks.{IsGrouped}
 use Rattle.bare_machine.specs.declared.thread.Thread.{Thread}
+use Rattle.bare_machine.specs.Requests.{object_of, request}
 use Rattle.bare_machine.specs.Step.{desk}
 use Rattle.place_turns.specs.Places as machine
-use Rattle.place_turns.specs.Requests.{object_of, request}
 use Rattle.joint_turns.specs.Joint.{Value}
 use Rattle.watched_turns.specs.Checking.{Loads, checked_of}
 use Rattle.watched_turns.specs.Turns.{Local, Act, attaches, steps, begins, leaves, Told, watched_turn}

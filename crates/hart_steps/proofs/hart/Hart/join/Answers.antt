@@ -6,4 +6,4 @@ use Rattle.hart_steps.proofs.hart.Hart.join.Goals as goal
 
 pub returns : goal.returns
 returns c d =
-    ap (λ (n : ℕ). returned (local_of c.args.self.now) c.args.thread.now (Join c.args.of) n d) (sym c.join_answer.ensures.value) ∙ c.answer.ensures d
+    ap (λ (n : ℕ). returned (local_of c.args.self.now) c.args.self.now.thread (Join c.args.of) n d) (sym c.join_answer.ensures.value) ∙ c.answer.ensures d

@@ -11,4 +11,4 @@ returns-clause-ok c lives =
     let d = c.args.desk.now in
     let out : d.output ++ take c.args.count (to_le_bytes w64 c.args.value) ≡ c.extend_from_slice.new.self = search rules in
     let with : List ℕ → Desk = λ o. record { made = d.made; lives = lives; output = o; ended = d.ended } in
-    ap (λ (o : List ℕ). returns (local_of c.args.self.now) c.args.thread.now (Put c.args.value c.args.count) 0 (record { made = d.made; lives = lives; output = o; ended = d.ended })) out ∙ c.answer.ensures (with c.extend_from_slice.new.self)
+    ap (λ (o : List ℕ). returns (local_of c.args.self.now) c.args.self.now.thread (Put c.args.value c.args.count) 0 (record { made = d.made; lives = lives; output = o; ended = d.ended })) out ∙ c.answer.ensures (with c.extend_from_slice.new.self)
