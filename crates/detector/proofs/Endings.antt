@@ -161,11 +161,11 @@ objects_change : (granules : ℕ) (limits : Limits) (from : ℕ) (h : List Momen
 objects_change granules limits from h m d after t e s going made none changes keeps slots rest =
     let keeps_them = subst (λ (k : Clocks). KeepsChannels everywhere d.era k after.objects) (sym (clocks_event granules limits from h m d t None e s going made)) keeps in
     let watcher = subst (IsWatcherAt limits (h ++ m ∷ []) t) changes.unnoted
-      (still_watcher limits h m t (watcher_of d t) e (s.watchers t) made changes.flat changes.no_last changes.alone) in
+    (still_watcher limits h m t (watcher_of d t) e (s.watchers t) made changes.flat changes.no_last changes.alone) in
     let stands = stands_thread granules limits from h m d t None None d.desk after.objects (watcher_of d t) s (by_it granules limits from h m d t None e s going made)
-      none going.watched (fits granules limits from h m d t None e s going made m.item made)
-      (desk_stays granules limits from h m d t None e s going made changes.no_end changes.no_create) refl keeps_them slots watcher
-      (settled_stays granules limits from h m d t None e s going made changes.flat changes.no_last) in
+    none going.watched (fits granules limits from h m d t None e s going made m.item made)
+    (desk_stays granules limits from h m d t None e s going made changes.no_end changes.no_create) refl keeps_them slots watcher
+    (settled_stays granules limits from h m d t None e s going made changes.flat changes.no_last) in
     let same = ap (λ (ws : List Watched). record d { objects = after.objects; watchers = ws }) (set-get_or d.watchers t (new_watched t d.limits)) in
     subst (Stands granules limits from None (h ++ m ∷ [])) (same ∙ sym rest) stands
 
