@@ -1,6 +1,6 @@
 -- Small histories of channels that end, of readers' and writers' locks, and of joined threads.
 use Rattle.std.specs.Prelude.{true, false, List, [], ◌∷◌, Some}
-use Rattle.run_record.specs.declared.event.Event.TheVariants.{Begin, Create, End, Join, Lock, Unlock, Acquire, Release, Destroy}
+use Rattle.run_record.specs.declared.event.Event.TheVariants.{Begin, Create, End, Join, Lock, Unlock, Acquire, Release, Destroy, Clear, Access}
 use Rattle.run_record.specs.declared.event.Part.TheVariants.{Main, Readers}
 use Rattle.run_record.specs.declared.entry.DeskNote.TheVariants.{Attach}
 use Rattle.run_record.specs.declared.entry.Entry.{Entry}
@@ -29,6 +29,27 @@ destroyed =
     ∷ noted 1 0 7 1 (Attach (label 1 1 0))
     ∷ makes 1 0 8 1 9 (Begin ∷ Acquire 0x1000008 Main ∷ Acquire 0x1000008 Readers ∷ []) []
     ∷ makes 1 0 9 1 11 (read 0x100e4 0x1000000 8 ∷ End ∷ []) (check 0 0 0x400101ff 1 (0x200ff ∷ 0 ∷ 0 ∷ 0 ∷ []) (Some 1) ∷ [])
+    ∷ []
+
+-- A store that doesn't release: the main thread writes, releases the channel of readers, and stores at the address
+-- without release; the other acquires both channels and reads.
+abbrev pub cleared_scripts : List (List Line)
+cleared_scripts =
+    (at 0 (Begin ∷ []) ∷ at 3 (Create 1 ∷ []) ∷ at 12 (write 0x10028 0x1000000 8 ∷ []) ∷ at 21 (Release 0x1000008 Readers false ∷ [])
+    ∷ at 30 (Access 0x10070 0x1000008 8 false true ∷ Clear 0x1000008 ∷ []) ∷ at 32 (End ∷ []) ∷ [])
+    ∷ (at 0 (Begin ∷ []) ∷ at 8 (Acquire 0x1000008 Main ∷ Acquire 0x1000008 Readers ∷ []) ∷ at 17 (read 0x100c0 0x1000000 8 ∷ []) ∷ at 19 (End ∷ []) ∷ [])
+    ∷ []
+
+abbrev pub cleared : List Entry
+cleared =
+    noted 0 0 1 0 (Attach (label 0 1 0))
+    ∷ makes 0 0 2 0 4 (Begin ∷ Create 1 ∷ []) []
+    ∷ makes 0 0 3 0 18 (write 0x10028 0x1000000 8 ∷ Release 0x1000008 Readers false ∷ []) (check 0 0 0x200ff 2 zeros (Some 0) ∷ [])
+    ∷ makes 0 0 4 0 9 (Access 0x10070 0x1000008 8 false true ∷ Clear 0x1000008 ∷ []) (check 0 1 0x800300ff 0 zeros (Some 0) ∷ [])
+    ∷ makes 0 0 5 0 2 (End ∷ []) []
+    ∷ noted 1 0 6 1 (Attach (label 1 1 0))
+    ∷ makes 1 0 7 1 9 (Begin ∷ Acquire 0x1000008 Main ∷ Acquire 0x1000008 Readers ∷ []) []
+    ∷ makes 1 0 8 1 11 (read 0x100c0 0x1000000 8 ∷ End ∷ []) (check 0 0 0x400101ff 1 (0x200ff ∷ 0 ∷ 0 ∷ 0 ∷ []) (Some 1) ∷ [])
     ∷ []
 
 -- A reader and a writer of one lock: the main thread reads under it as a reader, and the other writes under it
