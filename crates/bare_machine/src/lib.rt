@@ -11,7 +11,6 @@ mod machine;
 mod memory;
 mod request;
 mod serving;
-mod stepped;
 mod thread;
 pub mod touch;
 
@@ -21,6 +20,5 @@ pub use request::{Operation, Request, Return, Touch};
 pub use serving::{
     answer_thread, begin_thread, depth_after, finish_call, minus, outcome, replaced, return_thread,
 };
-pub use stepped::Stepped;
 pub use thread::{Thread, new_thread};
 pub use touch::{Touched, offset};

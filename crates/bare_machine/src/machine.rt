@@ -1,5 +1,5 @@
 // The bare machine.
-ghost use Rattle.std.specs.Prelude.{◌≡◌, ◌<◌, ◌≤◌, Some, length, slice_get, true, IfOk, OnErr};
+ghost use Rattle.std.specs.Prelude.{◌≡◌, ◌<◌, ◌≤◌, [], Some, length, slice_get, true, IfOk, OnErr};
 ghost use Rattle.bare_machine.specs.declared.thread.Thread.{Thread};
 ghost use Rattle.bare_machine.specs.World.{start, lives, HasMemory};
 ghost use Rattle.rv_exec.specs.Faults.{number_of};
@@ -9,7 +9,7 @@ ghost use Rattle.bare_machine.specs.Locals.{AreLocalSteps};
 ghost use Rattle.bare_machine.specs.Asked.{Asks, IsSound, IsShallow, IsWithin, IsUndone};
 
 use crate::thread::new_thread;
-use crate::{Memory, Request, Stepped, Thread};
+use crate::{Memory, Request, Thread};
 use elf_image::Image;
 use entry_calls::CallEvents;
 use guest_code::Code;
@@ -120,22 +120,24 @@ impl Machine {
         Request::of(image, tid, &mut self.threads[tid as usize])
     }
 
-    /// One instruction of a thread that lives, on the image that the machine was made for; after
-    /// an error nothing has changed.
-    pub fn step(&mut self, image: &Image<'_>, tid: u32) -> Result<Stepped, NoMemory>
+    /// One instruction of a thread that lives, on the image that the machine was made for. Its events come into the list. It tells
+    /// the object that it used, if any: a stripe of memory, or 64 for the desk. After an error nothing has changed.
+    pub fn step(
+        &mut self,
+        image: &Image<'_>,
+        tid: u32,
+        events: &mut CallEvents,
+    ) -> Result<Option<u32>, NoMemory>
         requires lives { lives self.old tid ≡ true }
         requires memory { HasMemory image.now self.old }
-        ensures ok { IfOk result (λ s. step image.now self.old tid ≡ record { world = self.new; events = s.events; object = s.object }) }
+        requires empty { events.old ≡ [] }
+        ensures ok { IfOk result (λ object. step image.now self.old tid ≡ record { world = self.new; events = events.new; object = object }) }
         ensures err { OnErr result (self.new ≡ self.old) }
         ensures memory { HasMemory image.now self.new }
     {
         let request = self.ask(image, tid);
-        let mut events = CallEvents::new();
-        self.serve(tid, &request, &mut events)?;
-        Ok(Stepped {
-            events,
-            object: request.object(),
-        })
+        self.serve(tid, &request, events)?;
+        Ok(request.object())
     }
 
     /// Makes instructions of a thread that lives while they touch its registers alone, at most so many, from its second

@@ -6,6 +6,7 @@ ghost use Rattle.thread_turns.specs.Turned.{CanHearAll, HearsAll, IsTurnOf, Read
 use crate::{Part, WatchedMachine};
 use detector::Detector;
 use elf_image::Image;
+use entry_calls::CallEvents;
 use guest_code::Code;
 use run_record::{Event, NoMemory};
 use std::alloc::Global;
@@ -64,15 +65,16 @@ impl WatchedMachine {
         ensures { OnOk result (MakesNext image.now tid part.old part.new self.old self.new) }
     {
         let labelled = self.detector.label(tid).is_some();
-        let stepped = self.machine.step(image, tid)?;
-        let events = stepped.events.as_slice();
+        let mut made = CallEvents::new();
+        let object = self.machine.step(image, tid, &mut made)?;
+        let events = made.as_slice();
         if labelled {
             hear_all(&mut self.detector, alloc, image, tid, events, part)?;
         } else {
             part.events.extend_from_slice(events)?;
         }
         part.steps += 1;
-        part.used = stepped.object.is_some();
+        part.used = object.is_some();
         Ok(())
     }
 
