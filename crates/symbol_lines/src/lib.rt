@@ -15,6 +15,7 @@
 //! file; `frame` is a binary search in each table and takes no memory.
 #![tactic(auto)]
 
+mod entries;
 mod frames;
 mod machine;
 mod name_table;
@@ -30,6 +31,7 @@ mod spans;
 mod symbols;
 #[cfg(test)]
 mod tests;
+mod text_sections;
 mod units;
 
 pub use frames::{FileText, Frame, Frames, Unnamed};
