@@ -1,17 +1,15 @@
 -- The ends of names, from the last offset of a string table down.
-use Rattle.std.proofs.Common.{◌≡◌, ℕ, zero, suc, ◌+◌, ◌-◌, ◌<◌, ◌≤◌, Bool, true, false, leb, ltb, eqb, ◌&&◌, ◌||◌, not, if◌then◌else◌, List, [], ◌∷◌, ◌++◌, length, take, drop, get_or, Option, Some, None, refl, sym, ap, ◌∙◌, subst, inl, inr, ◌⊎◌, ◌≢◌, add-one, drop-cons, arith}
+use Rattle.std.proofs.Common.{◌≡◌, ℕ, zero, suc, ◌+◌, ◌-◌, ◌<◌, ◌≤◌, Bool, true, false, leb, ltb, eqb, ◌&&◌, ◌||◌, not, if◌then◌else◌, List, [], ◌∷◌, ◌++◌, length, take, drop, get_or, Option, Some, None, refl, sym, ap, ◌∙◌, subst, inl, inr, add-one, drop-cons, arith}
 use Rattle.std.specs.Prelude.{unwrap_or}
 use Rattle.std.specs.Cmp.{both_ways}
 use Rattle.std.specs.List.{list_any}
 use Rattle.std.specs.Option.{option_map}
 use Rattle.std.specs.Str.{IsUtf8, is_utf8, IsCharBoundary}
-use Rattle.std.proofs.lemmas.Bool.{cases_Bool, and_parts, and_from, eq-eqb, ne_eqb, lt-ltb, le-ltb, ltb-true, ltb-false, leb-true, le-leb, eqb-true, eqb-false, false_from_ne_true}
+use Rattle.std.proofs.lemmas.Bool.{cases_Bool, and_parts, and_from, eq-eqb, ne_eqb, lt-ltb, le-ltb, ltb-true, ltb-false, leb-true, false_from_ne_true}
 use Rattle.std.proofs.lemmas.List.{length-append, length-drop, length-take, take_at, drop_at, drop-drop, drop_all, take-append-drop, get_or-take, get_or-drop}
 use Rattle.std.proofs.lemmas.List.Folds.{list_any_at}
 use Rattle.std.proofs.lemmas.Str.{IsUtf8-append, IsUtf8-nil, IsUtf8-take, IsUtf8-drop, IsUtf8-from_is_utf8, is_utf8-from_IsUtf8, IsCharBoundary-start}
 use Rattle.std.proofs.Math.Bool.{and-false}
-use Rattle.std.proofs.Math.ListN.{get_or-append}
-use Rattle.std.proofs.Math.Seq.{get_or-append_seam}
 use Rattle.symbol_lines.specs.Reading.{◌>>=◌, text_at}
 use Rattle.symbol_lines.specs.Lines.{is_shown}
 use Rattle.symbol_lines.specs.Paths.{has_text}
@@ -282,16 +280,18 @@ none_before section n within not_zero none =
     ap (list_any (λ b. eqb b 0)) (front_is section n within) ∙ rw not_here none
 
 pub texts_below : (section : List ℕ) (end : ℕ) → end ≤ length section → has_text section end ≡ false → (0 < end → get_or section (end - 1) 0 ≡ 0) → HasTextsBelow section end
-texts_below section end within none last = record { each = λ offset. elim (cases_Bool (ltb offset end)) [
-  | inl below ↦
-      let lt = ltb-true offset end below in
-      let same : offset + (end - 1 - offset) ≡ end - 1 = omega arith in
-      let byte : get_or (drop offset section) (end - 1 - offset) 0 ≡ 0 = get_or-drop offset section (end - 1 - offset) 0 ∙ rw same (last (omega arith)) in
-      let here : eqb (get_or (drop offset section) (end - 1 - offset) 0) 0 ≡ true = eq-eqb _ _ byte in
-      below ∙ sym (list_any_at (λ b. eqb b 0) (drop offset section) (end - 1 - offset) 0 (omega (arith, length-drop offset section)) here)
-  | inr not_below ↦
-      let le = ltb-false offset end not_below in
-      let same : end + (offset - end) ≡ offset = omega arith in
-      let behind : drop (offset - end) (drop end section) ≡ drop offset section = drop-drop (offset - end) end section ∙ ap (λ n. drop n section) same in
-      not_below ∙ sym (ap (list_any (λ b. eqb b 0)) (sym behind) ∙ any_behind (λ b. eqb b 0) (drop end section) (offset - end) none)
-] }
+texts_below section end within none last = record {
+  each = λ offset. elim (cases_Bool (ltb offset end)) [
+    | inl below ↦
+        let lt = ltb-true offset end below in
+        let same : offset + (end - 1 - offset) ≡ end - 1 = omega arith in
+        let byte : get_or (drop offset section) (end - 1 - offset) 0 ≡ 0 = get_or-drop offset section (end - 1 - offset) 0 ∙ rw same (last (omega arith)) in
+        let here : eqb (get_or (drop offset section) (end - 1 - offset) 0) 0 ≡ true = eq-eqb _ _ byte in
+        below ∙ sym (list_any_at (λ b. eqb b 0) (drop offset section) (end - 1 - offset) 0 (omega (arith, length-drop offset section)) here)
+    | inr not_below ↦
+        let le = ltb-false offset end not_below in
+        let same : end + (offset - end) ≡ offset = omega arith in
+        let behind : drop (offset - end) (drop end section) ≡ drop offset section = drop-drop (offset - end) end section ∙ ap (λ n. drop n section) same in
+        not_below ∙ sym (ap (list_any (λ b. eqb b 0)) (sym behind) ∙ any_behind (λ b. eqb b 0) (drop end section) (offset - end) none)
+  ];
+}

@@ -1,5 +1,5 @@
 -- Tables in which places are found by binary search.
-use Rattle.std.specs.Prelude.{◌≡◌, ℕ, ◌<◌, ◌^◌, List, length, map}
+use Rattle.std.specs.Prelude.{◌≡◌, ℕ, ◌<◌, ◌^◌, List, map}
 use Rattle.std.specs.List.Sorted.{IsNonDecreasingBy}
 use Rattle.symbol_lines.specs.declared.spans.Step.{Step}
 use Rattle.symbol_lines.specs.Spans.{owner_at, owner_among}
@@ -7,6 +7,7 @@ use Rattle.symbol_lines.specs.Symbols.{functions}
 use Rattle.symbol_lines.specs.Kept.{function_span, KeptSequence}
 use Rattle.symbol_lines.specs.Paths.{TextSections}
 use Rattle.symbol_lines.specs.Lines.{FileList, sequences}
+use Rattle.symbol_lines.specs.Frames.{Tables}
 use Rattle.symbol_lines.specs.NameEnds.{HasNames}
 use Rattle.symbol_lines.specs.KeptLines.{kept_lines, resolved, numbered}
 
@@ -21,7 +22,8 @@ pub record HasLines (texts : TextSections) (section : List ℕ) (steps : List St
   pub value : (p : ℕ) → p < 2 ^ 64 → owner_at steps p ≡ owner_among (numbered 0 kept) p
   pub lines : map (resolved units) kept ≡ map kept_lines (sequences texts section)
 
-pub record IsRead (symbols strings : List ℕ) (texts : TextSections) (section ends : List ℕ) (functions places : List Step) (kept : List KeptSequence) (units : List FileList) : Type 0 where
-  pub of_names : HasNames strings ends
-  pub of_symbols : HasFunctions symbols functions
-  pub of_lines : HasLines texts section places kept units
+-- what is kept serves for these tables
+pub record IsRead (t : Tables) (ends : List ℕ) (functions places : List Step) (kept : List KeptSequence) (units : List FileList) : Type 0 where
+  pub of_names : HasNames t.strings ends
+  pub of_symbols : HasFunctions t.symbols functions
+  pub of_lines : HasLines t.texts t.lines places kept units

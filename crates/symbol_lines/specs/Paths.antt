@@ -1,5 +1,5 @@
 -- What the entries of a line unit tell: paths, and the directories that they are in.
-use Rattle.std.specs.Prelude.{ℕ, ◌==◌, Bool, List, drop, Option, Some, None}
+use Rattle.std.specs.Prelude.{ℕ, ◌==◌, Bool, List, drop, Option, Some}
 use Rattle.std.specs.List.{list_any}
 use Rattle.symbol_lines.specs.Reading.{◌>>=◌, text_at}
 

@@ -4,7 +4,7 @@ use Rattle.std.specs.Prelude.{ℕ, zero, suc, ◌+◌, ◌-◌, ◌*◌, ◌/◌
 use Rattle.std.specs.Option.{option_map}
 use Rattle.symbol_lines.specs.declared.rows.Row.{Row}
 use Rattle.symbol_lines.specs.Reading.{◌>>=◌, byte_at, half_at, word_at, long_at, bytes_at, uleb_at, sleb_at, text_at}
-use Rattle.symbol_lines.specs.Paths.{Path, InUnit, TextSections, Entry}
+use Rattle.symbol_lines.specs.Paths.{InUnit, TextSections, Entry}
 use Rattle.symbol_lines.specs.Entries.{entries_at}
 
 -- what a unit's header says of its operations

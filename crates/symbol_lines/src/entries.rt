@@ -1,4 +1,4 @@
-// Directories and files of units of version 5: a list tells the format of its entries, how many there are, and then them.
+// Directories and files of units of version 5: a list tells the format of its entries, their count, and then the entries.
 ghost use Rattle.std.specs.Prelude.{◌≡◌, map, length, IfOk};
 ghost use Rattle.std.specs.Option.{option_map};
 ghost use Rattle.symbol_lines.specs.Reading.{list_at};
@@ -50,7 +50,8 @@ fn path_of<'a>(
     form: u64,
     bytes: &'a [u8],
 ) -> Option<(Path<'a>, &'a [u8])>
-    ensures { option_map (λ x. (path_view x.0, x.1.now)) result ≡ entries.path_at (sections_view sections.now) form bytes.now }
+    ensures { option_map (λ x. (path_view x.0, x.1.now)) result
+        ≡ entries.path_at (sections_view sections.now) form bytes.now }
 {
     if form == STRING {
         let (text, rest) = text_of(bytes)?;
@@ -139,8 +140,9 @@ fn field_of<'a>(
     entry: Entry<'a>,
     bytes: &'a [u8],
 ) -> Option<(Entry<'a>, &'a [u8])>
-    ensures { option_map (λ x. (entry_view x.0, x.1.now)) result
-        ≡ entries.field_at (sections_view sections.now) (format_view format) (entry_view entry.entry) bytes.now }
+    ensures { let s = sections_view sections.now in
+        option_map (λ x. (entry_view x.0, x.1.now)) result
+        ≡ entries.field_at s (format_view format) (entry_view entry.entry) bytes.now }
 {
     if format.content == PATH {
         let (path, rest) = path_of(sections, format.form, bytes)?;
@@ -170,8 +172,10 @@ fn fields_of<'a>(
     entry: Entry<'a>,
     bytes: &'a [u8],
 ) -> Option<(Entry<'a>, &'a [u8])>
-    ensures { option_map (λ x. (entry_view x.0, x.1.now)) result
-        ≡ entries.fields_at (sections_view sections.now) (map format_view formats.now) (entry_view entry.entry) bytes.now }
+    ensures { let s = sections_view sections.now in
+        let all = map format_view formats.now in
+        option_map (λ x. (entry_view x.0, x.1.now)) result
+        ≡ entries.fields_at s all (entry_view entry.entry) bytes.now }
 {
     match formats {
         [] => Some((entry, bytes)),
@@ -182,13 +186,15 @@ fn fields_of<'a>(
     }
 }
 
+/// An entry has no path and is in directory 0 where its fields don't tell another.
 fn entry_of<'a>(
     sections: &TextSections<'_>,
     formats: &[Format],
     bytes: &'a [u8],
 ) -> Option<(Entry<'a>, &'a [u8])>
-    ensures { option_map (λ x. (entry_view x.0, x.1.now)) result
-        ≡ entries.entry_at (sections_view sections.now) (map format_view formats.now) bytes.now }
+    ensures { let s = sections_view sections.now in
+        option_map (λ x. (entry_view x.0, x.1.now)) result
+        ≡ entries.entry_at s (map format_view formats.now) bytes.now }
 {
     let entry = Entry {
         path: None,
@@ -205,12 +211,14 @@ fn format_of(bytes: &[u8]) -> Option<(Format, &[u8])>
     Some((Format { content, form }, rest))
 }
 
+/// So many formats.
 fn formats_of(
     alloc: Global,
     count: u8,
     bytes: &[u8],
 ) -> Result<Option<(Vec<Format>, &[u8])>, AllocError>
-    ensures { IfOk result (λ o. option_map (λ x. (map format_view x.0.items, x.1.now)) o ≡ list_at entries.format_at count bytes.now) }
+    ensures { IfOk result (λ o. option_map (λ x. (map format_view x.0.items, x.1.now)) o
+        ≡ list_at entries.format_at count bytes.now) }
 {
     let mut found = Vec::new(alloc);
     let mut rest = bytes;
@@ -225,15 +233,17 @@ fn formats_of(
     Ok(Some((found, rest)))
 }
 
-fn so_many_of<'a>(
+/// So many entries with fields of these formats.
+fn entries_like<'a>(
     alloc: Global,
     sections: &TextSections<'_>,
     formats: &[Format],
     count: u64,
     bytes: &'a [u8],
 ) -> Result<Option<(Vec<Entry<'a>>, &'a [u8])>, AllocError>
-    ensures { IfOk result (λ o. option_map (λ x. (map entry_view x.0.items, x.1.now)) o
-        ≡ list_at (entries.entry_at (sections_view sections.now) (map format_view formats.now)) count bytes.now) }
+    ensures { let s = sections_view sections.now in
+        IfOk result (λ o. option_map (λ x. (map entry_view x.0.items, x.1.now)) o
+        ≡ list_at (entries.entry_at s (map format_view formats.now)) count bytes.now) }
 {
     let mut found = Vec::new(alloc);
     let mut rest = bytes;
@@ -273,5 +283,5 @@ pub fn entries_of<'a>(
     if count > 0 && formats.is_empty() {
         return Ok(None);
     }
-    so_many_of(alloc, sections, formats.as_slice(), count, rest)
+    entries_like(alloc, sections, formats.as_slice(), count, rest)
 }

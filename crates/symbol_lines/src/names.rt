@@ -1,6 +1,7 @@
 // Names of code places.
 ghost use Rattle.std.specs.Prelude.{◌≡◌, IfOk};
 ghost use Rattle.symbol_lines.specs.Frames as frames;
+ghost use Rattle.symbol_lines.specs.SectionViews.{tables_view};
 
 use crate::frames::{FileText, Frame, Frames};
 use crate::machine::Sequence;
@@ -16,14 +17,22 @@ use run_record::NoMemory;
 use std::alloc::Global;
 use std::marker::Model;
 
-/// The names of an executable's code places. Contracts see the tables of the file that they are read from.
-#[derive(Drop)]
-pub struct Names<'a> {
+/// The tables of a file that names are read from, and empty ones where it has none.
+#[derive(Clone, Copy)]
+struct TableBytes<'a> {
     symbols: &'a [u8],
+    /// The string table of the symbols.
     strings: &'a [u8],
+    /// The sections .debug_line, .debug_str and .debug_line_str.
     lines: &'a [u8],
     debug_str: &'a [u8],
     debug_line_str: &'a [u8],
+}
+
+/// The names of an executable's code places. Contracts see the tables of the file that they are read from.
+#[derive(Drop)]
+pub struct Names<'a> {
+    tables: TableBytes<'a>,
     ends: Vec<usize>,
     functions: Vec<Step>,
     places: Vec<Step>,
@@ -37,18 +46,13 @@ impl<'a> Model for Names<'a> {
     ghost use Rattle.symbol_lines.specs.Found.{IsRead};
     ghost use Rattle.symbol_lines.specs.KeptLines.{files_view};
     ghost use Rattle.symbol_lines.specs.MachineViews.{sequence_view};
+    ghost use Rattle.symbol_lines.specs.SectionViews.{tables_view};
 
     ghost Value = { Tables };
 
-    ghost view = { λ n. record {
-        symbols = n.symbols.now;
-        strings = n.strings.now;
-        lines = n.lines.now;
-        texts = record { strings = n.debug_str.now; line_strings = n.debug_line_str.now };
-    } };
+    ghost view = { λ n. tables_view n.tables };
 
-    ghost invariant = { λ n. IsRead n.symbols.now n.strings.now (record { strings = n.debug_str.now; line_strings = n.debug_line_str.now }) n.lines.now
-        n.ends.items n.functions.items n.places.items (map sequence_view n.sequences.items) (map files_view n.units.items) };
+    ghost invariant = { λ n. IsRead (tables_view n.tables) n.ends.items n.functions.items n.places.items (map sequence_view n.sequences.items) (map files_view n.units.items) };
 }
 
 /// The bytes of a section, and none where there is no such section.
@@ -61,6 +65,23 @@ fn section_or_none<'a>(image: &Image<'a>, name: &str) -> &'a [u8]
     }
 }
 
+/// The tables of an executable.
+fn tables_of<'a>(image: &Image<'a>) -> TableBytes<'a>
+    ensures { tables_view result ≡ frames.tables_of image.now }
+{
+    let (symbols, strings) = match image.symbol_tables() {
+        Some(tables) => tables,
+        None => (b"".as_slice(), b"".as_slice()),
+    };
+    TableBytes {
+        symbols,
+        strings,
+        lines: section_or_none(image, ".debug_line"),
+        debug_str: section_or_none(image, ".debug_str"),
+        debug_line_str: section_or_none(image, ".debug_line_str"),
+    }
+}
+
 impl<'a> Names<'a> {
     ghost use Rattle.symbol_lines.specs.Frames.{tables_of};
 
@@ -70,30 +91,20 @@ impl<'a> Names<'a> {
     pub fn read(alloc: Global, image: &Image<'a>) -> Result<Names<'a>, NoMemory>
         ensures { IfOk result (λ names. names ≡ tables_of image.now) }
     {
-        let (symbols, strings) = match image.symbol_tables() {
-            Some(tables) => tables,
-            None => (b"".as_slice(), b"".as_slice()),
-        };
-        let lines = section_or_none(image, ".debug_line");
-        let debug_str = section_or_none(image, ".debug_str");
-        let debug_line_str = section_or_none(image, ".debug_line_str");
-        let ends = name_ends(alloc, strings)?;
-        let spans = function_spans(alloc, symbols)?;
+        let tables = tables_of(image);
+        let ends = name_ends(alloc, tables.strings)?;
+        let spans = function_spans(alloc, tables.symbols)?;
         let functions = steps_of(alloc, spans.as_slice())?;
         let sections = TextSections {
-            strings: TextSection::read(alloc, debug_str)?,
-            line_strings: TextSection::read(alloc, debug_line_str)?,
+            strings: TextSection::read(alloc, tables.debug_str)?,
+            line_strings: TextSection::read(alloc, tables.debug_line_str)?,
         };
-        let all = read_lines(alloc, &sections, lines)?;
+        let all = read_lines(alloc, &sections, tables.lines)?;
         let spans = sequence_spans(alloc, all.sequences.as_slice())?;
         let places = steps_of(alloc, spans.as_slice())?;
         let AllLines { sequences, units } = all;
         Ok(Names {
-            symbols,
-            strings,
-            lines,
-            debug_str,
-            debug_line_str,
+            tables,
             ends,
             functions,
             places,
@@ -125,14 +136,15 @@ impl Names<'_> {
         ensures { result.now ≡ name_of self.now.symbols self.now.strings place }
     {
         match find_owner(self.functions.as_slice(), place) {
-            Some(owner) => name_at(self.strings, self.ends.as_slice(), owner.item),
+            Some(owner) => name_at(self.tables.strings, self.ends.as_slice(), owner.item),
             None => "",
         }
     }
 
     // The file and the line of a place.
     fn position(&self, place: u64) -> (FileText<'_>, u64)
-        ensures { position_view result ≡ position_at (sequences self.now.texts self.now.lines) place }
+        ensures { position_view result
+            ≡ position_at (sequences self.now.texts self.now.lines) place }
     {
         find_position(
             self.places.as_slice(),

@@ -30,7 +30,8 @@ fn begins_with_slash(path: &str) -> bool
 }
 
 fn shown_path<'a>(sections: &TextSections<'a>, path: Path<'a>) -> Option<&'a str>
-    ensures { option_map (λ t. t.now) result ≡ path_or_none (sections_view sections.now) (path_view path.entry) }
+    ensures { option_map (λ t. t.now) result
+        ≡ path_or_none (sections_view sections.now) (path_view path.entry) }
 {
     match path {
         Path::InUnit(text) => shown_or_none(text),
@@ -41,7 +42,8 @@ fn shown_path<'a>(sections: &TextSections<'a>, path: Path<'a>) -> Option<&'a str
 
 /// The path of an entry, if it is told and can be shown.
 fn shown_entry<'a>(sections: &TextSections<'a>, entry: Entry<'a>) -> Option<&'a str>
-    ensures { option_map (λ t. t.now) result ≡ shown_entry (sections_view sections.now) (entry_view entry.entry) }
+    ensures { option_map (λ t. t.now) result
+        ≡ shown_entry (sections_view sections.now) (entry_view entry.entry) }
 {
     match entry.path {
         Some(path) => shown_path(sections, path),
@@ -74,8 +76,9 @@ fn text_of<'a>(
     file: Entry<'a>,
 ) -> FileText<'a>
     requires { first ≤ 1 }
-    ensures { texts.text_of result
-        ≡ text_in (sections_view sections.now) first (map (option_map (λ d. d.now)) directories.now) (entry_view file.entry) }
+    ensures { let shown = map (option_map (λ d. d.now)) directories.now in
+        texts.text_of result
+        ≡ text_in (sections_view sections.now) first shown (entry_view file.entry) }
 {
     let name = match shown_entry(sections, file) {
         Some(name) => name,
@@ -108,8 +111,9 @@ fn texts_of<'a>(
     files: &[Entry<'a>],
 ) -> Result<Vec<FileText<'a>>, AllocError>
     requires { first ≤ 1 }
-    ensures { IfOk result (λ v. texts_view v
-        ≡ map (text_in (sections_view sections.now) first (map (option_map (λ d. d.now)) directories.now)) (map entry_view files.now)) }
+    ensures { let shown = map (option_map (λ d. d.now)) directories.now in
+        IfOk result (λ v. texts_view v
+        ≡ map (text_in (sections_view sections.now) first shown) (map entry_view files.now)) }
 {
     let mut texts = Vec::new(alloc);
     for file in files {
@@ -133,11 +137,11 @@ pub fn file_list<'a>(
     directories: &[Entry<'a>],
     files: &[Entry<'a>],
 ) -> Result<FileList<'a>, AllocError>
-    ensures { IfOk result (λ l. files_view l ≡ record {
-        first = first_number version;
-        texts = map (text_in (sections_view sections.now) (first_number version)
-            (map (shown_entry (sections_view sections.now)) (map entry_view directories.now))) (map entry_view files.now);
-    }) }
+    ensures { let s = sections_view sections.now in
+        let first = first_number version in
+        let shown = map (shown_entry s) (map entry_view directories.now) in
+        IfOk result (λ l. files_view l
+        ≡ record { first = first; texts = map (text_in s first shown) (map entry_view files.now) }) }
 {
     let first = first_number(version);
     let shown = shown_directories(alloc, sections, directories)?;

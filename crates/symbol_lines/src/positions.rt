@@ -15,7 +15,8 @@ use crate::spans::{Step, find_owner};
 
 /// The text of a file of a unit, and none where there is no such file.
 fn text_at<'a>(units: &[FileList<'a>], unit: usize, number: u64) -> FileText<'a>
-    ensures { text_of result ≡ text_or_none (file_text (slice_index_or (map files_view units.now) unit no_files) number) }
+    ensures { let files = slice_index_or (map files_view units.now) unit no_files in
+        text_of result ≡ text_or_none (file_text files number) }
 {
     if unit >= units.len() {
         return FileText::of_name("");
@@ -45,7 +46,8 @@ pub fn find_position<'a>(
 ) -> (FileText<'a>, u64)
     requires rising { IsNonDecreasingBy (λ s. s.from) steps.now }
     requires value { owner_at steps.now place ≡ owner_among (numbered 0 (map sequence_view sequences.now)) place }
-    ensures { position_view result ≡ position_at (map (resolved (map files_view units.now)) (map sequence_view sequences.now)) place }
+    ensures { let kept = map sequence_view sequences.now in
+        position_view result ≡ position_at (map (resolved (map files_view units.now)) kept) place }
 {
     let owner = match find_owner(steps, place) {
         Some(owner) => owner,

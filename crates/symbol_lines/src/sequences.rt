@@ -55,7 +55,8 @@ fn read_unit<'a>(
     number: usize,
 ) -> Result<UnitLines<'a>, AllocError>
     ensures lines { let s = sections_view sections.now in
-        IfOk result (λ u. map (with_files (files_view u.files)) (map sequence_view u.sequences.items) ≡ map kept_lines (lines_of s (unit_at s bytes.now))) }
+        IfOk result (λ u. map (with_files (files_view u.files)) (map sequence_view u.sequences.items)
+        ≡ map kept_lines (lines_of s (unit_at s bytes.now))) }
     ensures units { IfOk result (λ u. UnitsAre number (map sequence_view u.sequences.items)) }
 {
     let unit = match unit_of(alloc, sections, bytes)? {
@@ -112,7 +113,8 @@ pub fn read_lines<'a>(
     sections: &TextSections<'a>,
     section: &'a [u8],
 ) -> Result<AllLines<'a>, AllocError>
-    ensures { IfOk result (λ x. map (resolved (map files_view x.units.items)) (map sequence_view x.sequences.items)
+    ensures { IfOk result (λ x. let kept = map sequence_view x.sequences.items in
+        map (resolved (map files_view x.units.items)) kept
         ≡ map kept_lines (sequences (sections_view sections.now) section.now)) }
 {
     let mut found = Vec::new(alloc);

@@ -20,7 +20,8 @@ fn directories_of(
     alloc: Global,
     bytes: &[u8],
 ) -> Result<Option<(Vec<Entry<'_>>, &[u8])>, AllocError>
-    ensures { IfOk result (λ o. option_map (λ x. (map entry_view x.0.items, x.1.now)) o ≡ directories_at (length bytes.now) bytes.now) }
+    ensures { IfOk result (λ o. option_map (λ x. (map entry_view x.0.items, x.1.now)) o
+        ≡ directories_at (length bytes.now) bytes.now) }
 {
     let mut found = Vec::new(alloc);
     let mut rest = bytes;
@@ -70,8 +71,9 @@ fn lists_of<'a>(
     version: u16,
     bytes: &'a [u8],
 ) -> Result<Option<(Vec<Entry<'a>>, Vec<Entry<'a>>)>, AllocError>
-    ensures { IfOk result (λ o. option_map (λ x. (map entry_view x.0.items, map entry_view x.1.items)) o
-        ≡ lists_at (sections_view sections.now) version bytes.now) }
+    ensures { let s = sections_view sections.now in
+        IfOk result (λ o. option_map (λ x. (map entry_view x.0.items, map entry_view x.1.items)) o
+        ≡ lists_at s version bytes.now) }
 {
     if version == 5 {
         let (directories, rest) = match entries_of(alloc, sections, bytes)? {

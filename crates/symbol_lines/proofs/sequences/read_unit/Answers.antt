@@ -7,7 +7,7 @@ use Rattle.symbol_lines.specs.KeptLines.{files_view}
 use Rattle.symbol_lines.specs.Views.{unit_view}
 use Rattle.symbol_lines.specs.MachineViews.{machine_view}
 use Rattle.symbol_lines.specs.SectionViews.{sections_view}
-use Rattle.symbol_lines.specs.Lines.{FileList, first_number, file_list}
+use Rattle.symbol_lines.specs.Lines.{first_number, file_list}
 use Rattle.symbol_lines.proofs.Gathering.{ends, unit_read, unit_number}
 use Rattle.symbol_lines.proofs.Pathing.{texts_in-shown}
 use Rattle.symbol_lines.proofs.sequences.read_unit.Goals as goal

@@ -1,4 +1,4 @@
-use Rattle.std.proofs.Common.{◌≡◌, ◌+◌, ◌-◌, length, arith}
+use Rattle.std.proofs.Common.{◌≡◌, ◌+◌, ◌-◌, arith}
 use Rattle.symbol_lines.proofs.Ending.{none_at_end, none_before, texts_below}
 use Rattle.symbol_lines.proofs.text_sections.ended_of.Goals as goal
 

@@ -4,7 +4,7 @@ use Rattle.symbol_lines.specs.Entries.{entry_at}
 use Rattle.symbol_lines.specs.SectionViews.{sections_view}
 use Rattle.symbol_lines.specs.Views.{entry_view, format_view}
 use Rattle.symbol_lines.proofs.Counting.{list_more, list_bad, list_end}
-use Rattle.symbol_lines.proofs.entries.so_many_of.Goals as goal
+use Rattle.symbol_lines.proofs.entries.entries_like.Goals as goal
 
 pub returns-in-None : goal.returns-in-None
 returns-in-None c =
