@@ -1,16 +1,26 @@
-// What a guest of tsanrun has beside the C language: threads, locks, output. There is no C library.
+// Threads, locks and output for a guest of tsanrun that needs no C library. A program may include
+// <pthread.h> and the other headers in their place, or beside this one.
 #ifndef GUEST_H
 #define GUEST_H
 
 #include <stddef.h>
 #include <stdint.h>
 
+#include "sanitizer/tsan_interface.h"
+
+#ifdef __cplusplus
+#define GUEST_NORETURN [[noreturn]]
+extern "C" {
+#else
+#define GUEST_NORETURN _Noreturn
+#endif
+
 // ---- threads
 
 // Starts a thread that calls `function(argument)`: its number, from 1. -11 where `--harts` threads
-// live already, where 1,024 were made, or where no stack is left. Each thread has a stack of its own
-// that no later thread gets: 63 of 16,384 bytes, unless the program is built with -DGUEST_STACKS=N
-// or -DGUEST_STACK_BYTES=N (a multiple of 16).
+// live already, where 1,024 were made, or where no stack is left. There are 63 stacks of 16,384 bytes,
+// unless the program is built with -DGUEST_STACKS=N or -DGUEST_STACK_BYTES=N (a multiple of 16). The
+// stack of a thread that was joined is used again once no fresh one is left.
 long thread_create(void (*function)(void *), void *argument);
 
 // Waits until the thread has ended. All that it did happens before what follows. 0, or -3 where no
@@ -19,10 +29,10 @@ long thread_join(long thread);
 
 // Ends the calling thread, as a return from its function does. Where the main thread ends so, the
 // others go on; where it returns from main, the run ends.
-_Noreturn void thread_exit(void);
+GUEST_NORETURN void thread_exit(void);
 
-// Ends the run. The low eight bits of the status are told.
-_Noreturn void exit(int status);
+// Ends the run, after the destructors and what atexit was given. The low eight bits of the status are told.
+GUEST_NORETURN void exit(int status);
 
 // ---- locks. All bytes zero: free.
 
@@ -58,17 +68,13 @@ void *memmove(void *to, const void *from, size_t size);
 void *memset(void *to, int byte, size_t size);
 int memcmp(const void *one, const void *other, size_t size);
 
-// ---- for synchronisation of a program's own: what is released at an address happens before what
-// follows a later acquire there. Of a lock's flags only bit 3 counts: a lock to read. A lock is told
-// after it was taken, and before it is given back.
+// ---- for synchronisation of a program's own: see sanitizer/tsan_interface.h. What is released at an
+// address happens before what follows a later acquire there.
 
-void __tsan_acquire(void *address);
-void __tsan_release(void *address);
-void __tsan_mutex_create(void *address, unsigned flags);
-void __tsan_mutex_destroy(void *address, unsigned flags);
-void __tsan_mutex_post_lock(void *address, unsigned flags);
-void __tsan_mutex_pre_unlock(void *address, unsigned flags);
+#define TSAN_READ_LOCK __tsan_mutex_read_lock
 
-#define TSAN_READ_LOCK 8u
+#ifdef __cplusplus
+}
+#endif
 
 #endif

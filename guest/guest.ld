@@ -3,7 +3,7 @@
 
    `__global_pointer$` isn't defined, so that no linker makes accesses relative to x3: it is 0 in
    each thread. Debug sections other than line tables and the texts that they name are dropped, since
-   nothing reads them, and so are destructors, since nothing calls them. */
+   nothing reads them. */
 OUTPUT_ARCH(riscv)
 ENTRY(_start)
 
@@ -26,6 +26,12 @@ SECTIONS
         KEEP(*(.init_array))
         __init_array_end = .;
     } :code
+    .fini_array : ALIGN(8)
+    {
+        __fini_array_start = .;
+        KEEP(*(.fini_array .fini_array.*))
+        __fini_array_end = .;
+    } :code
 
     /* What each thread's own copy of thread-local variables begins as; x4 points to the copy. */
     .tdata : ALIGN(64) { *(.tdata .tdata.*) } :code :tls
@@ -46,13 +52,15 @@ SECTIONS
     .bss (NOLOAD) : ALIGN(8) { *(.sbss) *(.bss) *(COMMON) *(.sbss.*) *(.bss.*) } :data
     __data_end = .;
     ASSERT(__data_end - 0x1000000 <= 0x400000,
-        "guest: data and stacks take more than 4 MiB; fewer or smaller stacks: -DGUEST_STACKS=N, -DGUEST_STACK_BYTES=N")
+        "guest: data, stacks and heap take more than 4 MiB; less of the kit's: -DGUEST_STACKS=N, -DGUEST_STACK_BYTES=N, -DGUEST_HEAP_BYTES=N")
 
     /DISCARD/ :
     {
+        /* a frame in the C library has its function and no line */
+        *libc.a:*(.debug_line .debug_line_str .debug_str)
         *(.debug_info .debug_abbrev .debug_aranges .debug_ranges .debug_rnglists .debug_loc)
         *(.debug_loclists .debug_str_offsets .debug_addr .debug_frame .debug_names)
         *(.debug_pubnames .debug_pubtypes .debug_gnu_pubnames .debug_gnu_pubtypes .debug_macro)
-        *(.fini_array .fini_array.* .eh_frame .comment .riscv.attributes .note .note.* .llvm_addrsig)
+        *(.eh_frame .comment .riscv.attributes .note .note.* .llvm_addrsig)
     }
 }

@@ -55,8 +55,87 @@
     stub __tsan_unaligned_write16, 33
     stub __tsan_read_range, 34
     stub __tsan_write_range, 35
-    stub __tsan_vptr_update, 38
     stub __tsan_vptr_read, 39
+
+    # A store of the pointer that is there already, as each constructor of a chain makes it, is none.
+    begin   __tsan_vptr_update
+    ld      x5, 0(x10)
+    beq     x5, x11, 1f
+    addi    x17, x0, 38
+    ecall
+1:  ret
+    .size   __tsan_vptr_update, . - __tsan_vptr_update
+
+    # An access whose place is that of the call that returns to the second argument.
+    .macro stub_at name, number
+    begin   \name
+    addi    x5, x1, 0
+    addi    x1, x11, 0
+    addi    x17, x0, \number
+    ecall
+    addi    x1, x5, 0
+    ret
+    .size   \name, . - \name
+    .endm
+
+    stub_at __tsan_read1_pc, 16
+    stub_at __tsan_read2_pc, 17
+    stub_at __tsan_read4_pc, 18
+    stub_at __tsan_read8_pc, 19
+    stub_at __tsan_read16_pc, 20
+    stub_at __tsan_write1_pc, 21
+    stub_at __tsan_write2_pc, 22
+    stub_at __tsan_write4_pc, 23
+    stub_at __tsan_write8_pc, 24
+    stub_at __tsan_write16_pc, 25
+
+    # The same of a range: address, size, return address.
+    .macro range_at name, number
+    begin   \name
+    addi    x5, x1, 0
+    addi    x1, x12, 0
+    addi    x17, x0, \number
+    ecall
+    addi    x1, x5, 0
+    ret
+    .size   \name, . - \name
+    .endm
+
+    range_at __tsan_read_range_pc, 34
+    range_at __tsan_write_range_pc, 35
+
+    # Unaligned loads and stores by name: announced, and then made byte by byte.
+    .macro unaligned bits, bytes, read, write
+    begin   __sanitizer_unaligned_load\bits
+    addi    x17, x0, \read
+    ecall
+    addi    x5, x0, 0               # value
+    addi    x6, x0, \bytes
+1:  addi    x6, x6, -1
+    add     x7, x10, x6
+    lbu     x7, 0(x7)
+    slli    x5, x5, 8
+    or      x5, x5, x7
+    bnez    x6, 1b
+    addi    x10, x5, 0
+    ret
+    .size   __sanitizer_unaligned_load\bits, . - __sanitizer_unaligned_load\bits
+    begin   __sanitizer_unaligned_store\bits
+    addi    x17, x0, \write
+    ecall
+    addi    x6, x0, \bytes
+1:  sb      x11, 0(x10)
+    srli    x11, x11, 8
+    addi    x10, x10, 1
+    addi    x6, x6, -1
+    bnez    x6, 1b
+    ret
+    .size   __sanitizer_unaligned_store\bits, . - __sanitizer_unaligned_store\bits
+    .endm
+
+    unaligned 16, 2, 26, 30
+    unaligned 32, 4, 27, 31
+    unaligned 64, 8, 28, 32
 
     # A volatile access is an access: volatile orders nothing between threads. A read and write of
     # the same bytes is announced as the write, which races with all that the read races with.
@@ -74,14 +153,80 @@
 # ---- functions, and what a program may tell of its own synchronisation
 
     nothing __tsan_init
-    stub __tsan_func_entry, 36
-    stub __tsan_func_exit, 37
+    # A program that leaves functions by longjmp has these two from jump.S, which count.
+    .macro weak_stub name, number
+    .section .text.\name, "ax", @progbits
+    .weak   \name
+    .type   \name, @function
+\name:
+    addi    x17, x0, \number
+    ecall
+    ret
+    .size   \name, . - \name
+    .endm
+
+    weak_stub __tsan_func_entry, 36
+    weak_stub __tsan_func_exit, 37
     stub __tsan_acquire, 40
     stub __tsan_release, 41
     stub __tsan_mutex_create, 42
     stub __tsan_mutex_destroy, 43
-    stub __tsan_mutex_post_lock, 44
-    stub __tsan_mutex_pre_unlock, 45
+    nothing __tsan_mutex_pre_lock
+    nothing __tsan_mutex_post_unlock
+    nothing __tsan_mutex_pre_signal
+    nothing __tsan_mutex_post_signal
+    nothing __tsan_mutex_pre_divert
+    nothing __tsan_mutex_post_divert
+    nothing __tsan_flush_memory
+
+    # A try that failed (bit 5 of the flags) took no lock.
+    begin   __tsan_mutex_post_lock
+    andi    x5, x11, 32
+    bnez    x5, 1f
+    addi    x17, x0, 44
+    ecall
+1:  ret
+    .size   __tsan_mutex_post_lock, . - __tsan_mutex_post_lock
+
+    # The answer is the recursion count that the lock was given back from.
+    begin   __tsan_mutex_pre_unlock
+    addi    x17, x0, 45
+    ecall
+    addi    x10, x0, 1
+    ret
+    .size   __tsan_mutex_pre_unlock, . - __tsan_mutex_pre_unlock
+
+    # Annotations by their older names: file and line come first, then the address.
+    .macro annotate name, number
+    begin   \name
+    addi    x10, x12, 0
+    addi    x17, x0, \number
+    ecall
+    ret
+    .size   \name, . - \name
+    .endm
+
+    annotate AnnotateHappensBefore, 41
+    annotate AnnotateHappensAfter, 40
+    annotate AnnotateRWLockCreate, 42
+    annotate AnnotateRWLockCreateStatic, 42
+    annotate AnnotateRWLockDestroy, 43
+
+    # A fourth argument says whether the lock is one for writing.
+    .macro annotate_lock name, number
+    begin   \name
+    addi    x10, x12, 0
+    seqz    x11, x13
+    slli    x11, x11, 3
+    addi    x17, x0, \number
+    ecall
+    ret
+    .size   \name, . - \name
+    .endm
+
+    annotate_lock AnnotateRWLockAcquired, 44
+    annotate_lock AnnotateRWLockReleased, 45
+
     stub __tsan_atomic_thread_fence, 46
     nothing __tsan_atomic_signal_fence
 

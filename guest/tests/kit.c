@@ -202,13 +202,13 @@ static void try_threads(void)
     mutex_unlock(&mutex);
     check(mutex_try_lock(&mutex));
     own = 1;
-    for (int i = 0; i < 60; i += 1) {
+    // more threads than there are stacks, each joined before the next
+    for (int i = 0; i < 80; i += 1) {
         mutex_unlock(&mutex);
         long again = thread_create(work, (void *)1);
-        check(again == 4 + i && thread_join(again) == 0);
+        check(again == 4 + i && thread_join(again) == 0 && thread_join(again) == 0);
         mutex_lock(&mutex);
     }
-    check(thread_create(work, NULL) == -11);
     check(own == 1);
 }
 

@@ -157,13 +157,20 @@ static ACCESSES: [Row<'static>; 13] = [
         status: 66,
         ..ROW
     },
-    // A relaxed store leaves what an earlier store released.
+    // A relaxed store takes back what an earlier store released.
     Row {
         program: "main: N(a) E(write8,0) E(atomic64_store,8,1,3) E(atomic64_store,8,2,0) T; a: E(atomic64_load,8,2) E(read8,0) T",
-        summary: (0, 0, 0, 2, "all ended"),
+        races: &[Race {
+            mine: "Read of size 8 at 0x0000000001000000 by thread T1",
+            stack: &[(UNKNOWN, 0x100c0)],
+            previous: BY_MAIN,
+            previous_stack: &[(UNKNOWN, 0x10028)],
+        }],
+        summary: (1, 0, 0, 2, "all ended"),
+        status: 66,
         ..ROW
     },
-    // So does a relaxed addition.
+    // A relaxed addition leaves it.
     Row {
         program: "main: N(a) E(write8,0) E(atomic64_store,8,1,3) E(atomic64_fetch_add,8,2,0) T; a: E(atomic64_load,8,2) E(read8,0) T",
         summary: (0, 0, 0, 2, "all ended"),
