@@ -1,3 +1,4 @@
 pub mod StepLemmas
 pub mod CallLemmas
 pub mod Granules
+pub mod LocalLaws

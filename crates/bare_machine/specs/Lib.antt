@@ -7,4 +7,5 @@ pub use Rattle.rv_exec.specs.Registers
 pub use Rattle.rv_exec.specs.Meaning
 pub use Rattle.elf_image.specs.File
 pub mod Preview
+pub mod Locals
 pub mod Asked

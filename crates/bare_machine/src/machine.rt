@@ -5,12 +5,14 @@ ghost use Rattle.bare_machine.specs.World.{start, lives, HasMemory};
 ghost use Rattle.rv_exec.specs.Faults.{number_of};
 ghost use Rattle.bare_machine.specs.Preview as previews;
 ghost use Rattle.bare_machine.specs.Step.{step, first_of, first_events};
+ghost use Rattle.bare_machine.specs.Locals.{AreLocalSteps};
 ghost use Rattle.bare_machine.specs.Asked.{Asks, IsSound, IsShallow, IsWithin, IsUndone};
 
 use crate::thread::new_thread;
 use crate::{Memory, Request, Stepped, Thread};
 use elf_image::Image;
 use entry_calls::CallEvents;
+use guest_code::Code;
 use run_record::{Event, GuestEnd, NoMemory};
 use rv_exec::GuestFault;
 use std::alloc::Global;
@@ -134,6 +136,16 @@ impl Machine {
             events,
             object: request.object(),
         })
+    }
+
+    /// Makes instructions of a thread that lives while they touch its registers alone, at most so many, from its second
+    /// instruction on. It tells how many it made: each was a step without events and objects.
+    pub fn run_locals(&mut self, code: &Code<'_>, tid: u32, most: u32) -> u32
+        requires { lives self.old tid ≡ true }
+        ensures made { AreLocalSteps code.now tid self.old result self.new }
+        ensures few { result ≤ most }
+    {
+        self.threads[tid as usize].run_locals(code, most)
     }
 
     /// What the next instruction of a thread that lives will need, on the image that the machine

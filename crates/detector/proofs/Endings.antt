@@ -1,4 +1,4 @@
--- A Create, an End, a Destroy and a Put.
+-- A Create, an End, a Destroy, a Clear and a Put.
 use Rattle.std.proofs.Common.{◌≡◌, ℕ, zero, suc, ◌+◌, ◌<◌, ◌≤◌, ◌⊎◌, inl, inr, Bool, true, false, cond, Some, None, List, [], ◌∷◌, ◌++◌, length, get_or, length-append, refl, ap, sym, subst, ◌∙◌, arith, ne_eqb}
 use Rattle.std.specs.Prelude.{map, slice_set, slice_index, option_map}
 use Rattle.std.proofs.lemmas.List.{set-get_or}
@@ -8,8 +8,8 @@ use Rattle.run_record.specs.declared.event.Event.TheVariants as events
 use Rattle.run_record.specs.declared.entry.Label.{Label}
 use Rattle.run_record.specs.declared.limits.Limits.{Limits}
 use Rattle.run_laws.specs.Moments.{Does, Moment, items}
-use Rattle.run_laws.specs.Labels.{Labels, labels}
-use Rattle.run_laws.specs.Clocks.{Clocks, clocks}
+use Rattle.run_laws.specs.Labels.{Labels, labels, raises, is_end}
+use Rattle.run_laws.specs.Clocks.{Clocks, clocks, event_clocks, taken_from}
 use Rattle.run_laws.specs.Present.{labels_now, clocks_now, queue_now}
 use Rattle.slot_desk.specs.declared.answers.Created.TheVariants.{Thread, Full}
 use Rattle.slot_desk.specs.declared.slot.Attachment.{Attachment}
@@ -21,10 +21,10 @@ use Rattle.slot_desk.proofs.DeskLists.{at_each_set}
 use Rattle.run_laws.proofs.LabelLaw.{label_parts}
 use Rattle.slot_desk.proofs.HistorySteps.{labelled_holds}
 use Rattle.sync_slab.specs.Channels.{KeepsChannels, everywhere}
-use Rattle.sync_slab.proofs.ChannelLaws.{destroyed}
-use Rattle.race_core.specs.Watched.{Watched, new_watched, unlabelled}
+use Rattle.sync_slab.proofs.ChannelLaws.{destroyed, cleared}
+use Rattle.race_core.specs.Watched.{Watched, new_watched, noted, unlabelled}
 use Rattle.race_core.specs.History.{IsWatcherAt}
-use Rattle.detector.specs.Detected.{Detected, watcher_of, after_create, after_end, Destroys, IsGoing, IsLeaving, raised_or_lost, lost_label}
+use Rattle.detector.specs.Detected.{Detected, watcher_of, after_create, after_end, Destroys, Clears, IsGoing, IsLeaving, raised_or_lost, lost_label}
 use Rattle.report_laws.proofs.CollectedLaw.{push_unchecked}
 use Rattle.detector.specs.Stands.{Stands, AreSettled, awaited}
 use Rattle.detector.proofs.Laws.{still_watcher, end_watcher, own_entry, other_watcher, within_push}
@@ -145,13 +145,44 @@ stands_end granules limits from h m d t s going made none =
     settled : (labels_now limits.epochs h).slot_of t ≡ Some going.label.sid → going.label.sid < limits.slots → AreSettled None (labels_now limits.epochs (h ++ m ∷ [])) (desks.ended d.desk t going.label.sid (slice_index (watcher_of d t).clock going.label.sid) (watcher_of d t).clock)
     settled mine within = at_each_set (λ (sid : ℕ) (y : SlotContents). (a : Attachment) → y.owner ≡ Some a → (None ≡ Some a.tid) ⊎ ((labels_now limits.epochs (h ++ m ∷ [])).slot_of a.tid ≡ Some sid)) d.desk.slots going.label.sid _ no_slot (let z = s.desk.desk.slots.all_slots in omega arith) (λ a q. absurd (cc)) (λ sid other a q. others sid a mine other q)
 
+-- An event changes objects alone: it raises no epoch, ends and creates no thread, takes no clock in and isn't traced.
+record ChangesObjects (t : ℕ) (w : Watched) (e : Event) : Type 0 where
+  flat : raises e ≡ 0
+  no_last : is_end e ≡ false
+  alone : taken_from t e ≡ None
+  no_end : e ≡ events.End → ⊥
+  no_create : (child : ℕ) → e ≡ events.Create child → ⊥
+  unnoted : noted w e ≡ w
+
+objects_change : (granules : ℕ) (limits : Limits) (from : ℕ) (h : List Moment) (m : Moment) (d after : Detected) (t : ℕ) (e : Event) →
+    Stands granules limits from None h d → IsGoing d t → m.item ≡ Does t e → m.checks ≡ [] → ChangesObjects t (watcher_of d t) e →
+    KeepsChannels everywhere d.era (event_clocks limits.epochs (labels_now limits.epochs h) (clocks_now limits.epochs h) t e) after.objects →
+    after.objects.slots ≡ d.objects.slots → after ≡ record d { objects = after.objects } → Stands granules limits from None (h ++ m ∷ []) after
+objects_change granules limits from h m d after t e s going made none changes keeps slots rest =
+    let keeps_them = subst (λ (k : Clocks). KeepsChannels everywhere d.era k after.objects) (sym (clocks_event granules limits from h m d t None e s going made)) keeps in
+    let watcher = subst (IsWatcherAt limits (h ++ m ∷ []) t) changes.unnoted
+    (still_watcher limits h m t (watcher_of d t) e (s.watchers t) made changes.flat changes.no_last changes.alone) in
+    let stands = stands_thread granules limits from h m d t None None d.desk after.objects (watcher_of d t) s (by_it granules limits from h m d t None e s going made)
+    none going.watched (fits granules limits from h m d t None e s going made m.item made)
+    (desk_stays granules limits from h m d t None e s going made changes.no_end changes.no_create) refl keeps_them slots watcher
+    (settled_stays granules limits from h m d t None e s going made changes.flat changes.no_last) in
+    let same = ap (λ (ws : List Watched). record d { objects = after.objects; watchers = ws }) (set-get_or d.watchers t (new_watched t d.limits)) in
+    subst (Stands granules limits from None (h ++ m ∷ [])) (same ∙ sym rest) stands
+
 -- the objects of an address end
 pub stands_destroy : (granules : ℕ) (limits : Limits) (from : ℕ) (h : List Moment) (m : Moment) (d after : Detected) (t addr : ℕ) → Stands granules limits from None h d → IsGoing d t → m.item ≡ Does t (events.Destroy addr) → m.checks ≡ [] → Destroys d after addr → Stands granules limits from None (h ++ m ∷ []) after
 stands_destroy granules limits from h m d after t addr s going made none r =
-    let e : Event = events.Destroy addr in
-    let keeps_them = subst (λ (k : Clocks). KeepsChannels everywhere d.era k after.objects) (sym (clocks_event granules limits from h m d t None e s going made))
-    (destroyed limits.epochs (labels_now limits.epochs h) everywhere d.era t addr (clocks_now limits.epochs h) d.objects after.objects s.objects r.ends r.objects) in
-    let stands = stands_thread granules limits from h m d t None None d.desk after.objects (watcher_of d t) s (by_it granules limits from h m d t None e s going made) none going.watched (fits granules limits from h m d t None e s going made m.item made)
-    (desk_stays granules limits from h m d t None e s going made (λ x. cc) (λ c x. cc)) refl keeps_them r.ends.slots (still_watcher limits h m t (watcher_of d t) e (s.watchers t) made refl refl refl)
-    (settled_stays granules limits from h m d t None e s going made refl refl) in
-    subst (Stands granules limits from None (h ++ m ∷ [])) (ap (λ (ws : List Watched). record d { objects = after.objects; watchers = ws }) (set-get_or d.watchers t (new_watched t d.limits)) ∙ sym r.rest) stands
+    objects_change granules limits from h m d after t (events.Destroy addr) s going made none
+    (record { flat = refl; no_last = refl; alone = refl; no_end = λ x. cc; no_create = λ c x. cc; unnoted = refl })
+    (destroyed limits.epochs (labels_now limits.epochs h) everywhere d.era t addr (clocks_now limits.epochs h) d.objects after.objects s.objects r.ends r.objects)
+    r.ends.slots r.rest
+
+-- the one of its part Main ends
+pub stands_clear : (granules : ℕ) (limits : Limits) (from : ℕ) (h : List Moment) (m : Moment) (d after : Detected) (t addr : ℕ) →
+    Stands granules limits from None h d → IsGoing d t → m.item ≡ Does t (events.Clear addr) → m.checks ≡ [] → Clears d after addr →
+    Stands granules limits from None (h ++ m ∷ []) after
+stands_clear granules limits from h m d after t addr s going made none r =
+    objects_change granules limits from h m d after t (events.Clear addr) s going made none
+    (record { flat = refl; no_last = refl; alone = refl; no_end = λ x. cc; no_create = λ c x. cc; unnoted = refl })
+    (cleared limits.epochs (labels_now limits.epochs h) everywhere d.era t addr (clocks_now limits.epochs h) d.objects after.objects s.objects r.removes r.objects)
+    r.removes.slots r.rest

@@ -28,7 +28,7 @@ use Rattle.race_core.specs.Watched.{Watched, AreWatcherLimits, new_watched}
 use Rattle.turn_laws.specs.Going.{spent_by, AreRightNow, LoadsNow}
 use Rattle.report_laws.specs.Sound.{first_race_in}
 use Rattle.detector.specs.declared.access.Raced.{Raced}
-use Rattle.detector.specs.Detected.{Detected, watcher_of, IsGoing, IsLeaving, MayRaise, Releases, Destroys, after_begin, after_join, after_acquire, after_create, after_end, after_note, lost_label}
+use Rattle.detector.specs.Detected.{Detected, watcher_of, IsGoing, IsLeaving, MayRaise, Releases, Destroys, Clears, after_begin, after_join, after_acquire, after_create, after_end, after_note, lost_label}
 use Rattle.detector.specs.Checked.{raced_of, waits_on}
 use Rattle.detector.specs.Checking.{Checking, IsStanding, ChecksAll}
 use Rattle.detector.specs.Stands.{Stands}
@@ -37,7 +37,7 @@ use Rattle.detector.specs.Hears.{Hears, CanHear, desk_after}
 use Rattle.detector.proofs.Laws.{own_entry}
 use Rattle.detector.proofs.Events.{still, stands_begin, stands_join, stands_acquire}
 use Rattle.detector.proofs.Raises.{stands_release, leaves_release, spent_is}
-use Rattle.detector.proofs.Endings.{stands_create, leaves_create, stands_end, stands_destroy}
+use Rattle.detector.proofs.Endings.{stands_create, leaves_create, stands_end, stands_destroy, stands_clear}
 use Rattle.detector.proofs.AccessLaws.{event_of, waits_for, after_access, stands_access, right_after}
 
 -- ---- what the calls need
@@ -197,6 +197,11 @@ module _ (file : List ℕ) (old new : Detected) (t place : ℕ) (e : Event) (che
 
   pub hears_destroy : (addr : ℕ) → e ≡ events.Destroy addr → Destroys old new addr → Hears file old.limits old new t place e checks checks None
   hears_destroy addr e_is destroys = renamed (events.Destroy addr) new None e_is refl (hears_plain file old new t place (events.Destroy addr) checks refl refl (λ from h m s made none. stands_destroy (granules_of file) old.limits from h m old new t addr s going made none destroys) (ap (λ (d : Detected). d.desk) destroys.rest))
+
+  pub hears_clear : (addr : ℕ) → e ≡ events.Clear addr → Clears old new addr → Hears file old.limits old new t place e checks checks None
+  hears_clear addr e_is clears = renamed (events.Clear addr) new None e_is refl
+      (hears_plain file old new t place (events.Clear addr) checks refl refl
+      (λ from h m s made none. stands_clear (granules_of file) old.limits from h m old new t addr s going made none clears) (ap (λ (d : Detected). d.desk) clears.rest))
 
   pub hears_note : is_plain e ≡ true → new ≡ after_note old t e → Hears file old.limits old new t place e checks checks None
   hears_note is new_is =

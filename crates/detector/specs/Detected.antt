@@ -3,11 +3,12 @@ use Rattle.std.specs.Prelude.{◌≡◌, ◌<◌, ◌≤◌, ℕ, ◌+◌, ◌*�
 use Rattle.run_record.specs.declared.entry.Label.{Label}
 use Rattle.run_record.specs.declared.event.Event.{Event}
 use Rattle.run_record.specs.declared.event.Part.{Part}
+use Rattle.run_record.specs.declared.event.Part.TheVariants.{Main}
 use Rattle.run_record.specs.declared.limits.Limits.{Limits}
 use Rattle.slot_desk.specs.Desks.{DeskContents, thread_of, held_of, slot_of}
 use Rattle.slot_desk.specs.Steps as desks
 use Rattle.vector_clock.specs.Clocks.{joined}
-use Rattle.sync_slab.specs.Objects.{SyncObject, SyncObjects, AreObjects, clock_in, Puts, Ends}
+use Rattle.sync_slab.specs.Objects.{SyncObject, SyncObjects, AreObjects, clock_in, Puts, Ends, Removes}
 use Rattle.race_core.specs.Watched.{Watched, new_watched, with_clock, unlabelled, labelled, raised, next_label, noted, in_era, with_room}
 use Rattle.race_core.specs.declared.watcher.Candidate.{Candidate}
 
@@ -90,6 +91,12 @@ pub record Releases (old new : Detected) (t addr : ℕ) (part : Part) (replaces 
 -- after the objects of an address have ended
 pub record Destroys (old new : Detected) (addr : ℕ) : Type 0 where
   pub ends : Ends old.objects new.objects addr
+  pub objects : AreObjects new.objects
+  pub rest : new ≡ record old { objects = new.objects }
+
+-- after the object of an address and the part Main has ended
+pub record Clears (old new : Detected) (addr : ℕ) : Type 0 where
+  pub removes : Removes old.objects new.objects addr Main
   pub objects : AreObjects new.objects
   pub rest : new ≡ record old { objects = new.objects }
 

@@ -4,7 +4,7 @@ ghost use Rattle.run_record.specs.declared.limits.Limits.{Limits};
 ghost use Rattle.slot_desk.specs.Desks.{thread_of, held_of};
 ghost use Rattle.slot_desk.specs.Steps as desks;
 ghost use Rattle.race_core.specs.Watched.{AreWatcherLimits};
-ghost use Rattle.detector.specs.Detected.{watcher_of, with_watcher, raised_or_lost, lost_label, after_begin, after_create, after_end, after_join, after_acquire, Releases, Destroys, MayRaise};
+ghost use Rattle.detector.specs.Detected.{watcher_of, with_watcher, raised_or_lost, lost_label, after_begin, after_create, after_end, after_join, after_acquire, Releases, Destroys, Clears, MayRaise};
 
 use crate::Detector;
 use race_core::Watcher;
@@ -123,5 +123,11 @@ impl Detector {
         ensures { Destroys self.old self.new addr }
     {
         self.objects.destroy(addr);
+    }
+
+    pub(crate) fn clear(&mut self, addr: u64)
+        ensures { Clears self.old self.new addr }
+    {
+        self.objects.clear(addr);
     }
 }

@@ -45,6 +45,7 @@ impl Detector {
                 replaces,
             } => return Ok(self.release(tid, addr, part, replaces)),
             Event::Destroy { addr } => self.destroy(addr),
+            Event::Clear { addr } => self.clear(addr),
             Event::Access { .. } => self.access(image, tid, place, event, checks)?,
             Event::Enter(_) | Event::Leave => self.note(tid, event),
             Event::Lock { .. } | Event::Unlock { .. } => self.note(tid, event),

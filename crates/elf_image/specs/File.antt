@@ -8,6 +8,7 @@ use Rattle.elf_image.specs.declared.header.ProgramHeader.{ProgramHeader}
 use Rattle.elf_image.specs.declared.region.Region.{Region}
 use Rattle.elf_image.specs.Bytes.{u16_at, u32_at, u64_at, word_of, long_of}
 use Rattle.elf_image.specs.Headers.{header_at, takes_memory, is_writable, is_outside, has_bad_sizes, region, stack, gives_byte, byte_of}
+use Rattle.elf_image.specs.Headers as headers_of
 use Rattle.elf_image.specs.Regions.{contains, overlaps, size, block, is_writable_in, is_constant_in, is_code_in, granule_count, granule_in, granule_start}
 
 -- the header's fields e_entry, e_phoff and e_phnum
@@ -127,6 +128,10 @@ byte_at file a = byte_in file (segments_of file) a
 -- the number of the region that has an address, by rising start
 abbrev pub region_number : List ℕ → ℕ → Option ℕ
 region_number file a = position (λ r. contains r a) (regions_of file)
+
+-- the address behind the bytes that the file has for region k
+abbrev pub file_end : List ℕ → ℕ → ℕ
+file_end file k = slice_index (map headers_of.file_end (segments_of file)) k
 
 -- an address of some region
 abbrev pub is_mapped : List ℕ → ℕ → Bool

@@ -51,6 +51,10 @@ stack = record { kind = 1; flags = 6; offset = 0; address = 0x7FFF0000; file_siz
 abbrev pub gives_byte : ProgramHeader → ℕ → Bool
 gives_byte h a = nat_le h.address a && nat_lt a (h.address + h.file_size)
 
+-- the address behind the bytes that the file has for it
+abbrev pub file_end : ProgramHeader → ℕ
+file_end h = h.address + h.file_size
+
 -- the segment's byte at an address of its region: the file's where it has one, and else zero
 unfoldable pub byte_of : List ℕ → ProgramHeader → ℕ → ℕ
 byte_of file h a = if gives_byte h a then slice_index file (h.offset + (a - h.address)) else 0

@@ -91,6 +91,20 @@ impl Image<'_> {
         }
     }
 
+    /// The address behind the bytes that the file has for the region of this number, in the order of `regions`; what
+    /// the region has from there on is zero. Without such a region it is 0.
+    pub fn file_end(&self, region: u32) -> u64
+        ensures value { result ≡ file.file_end self.now region }
+        ensures low { result ≤ 2 ^ 40 }
+    {
+        let index = region as usize;
+        if index >= self.segments.len() {
+            return 0;
+        }
+        let segment = self.segments[index];
+        segment.address + segment.file_size
+    }
+
     /// The granule of an address, if it may be written.
     pub fn granule_of(&self, address: u64) -> Option<u32>
         ensures { result ≡ file.granule_of self.now address }

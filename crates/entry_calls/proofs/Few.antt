@@ -31,14 +31,9 @@ few_changing : (place addr size order : ℕ) → IsFew (changing place addr size
 few_changing place addr size order =
     after (acquires order) (releases order) (events.Access place addr size false true) (events.Acquire addr Main) (events.Release addr Main false)
 
-few_storing : (b : Bool) (a e : Event) → IsFew (a ∷ [] ++ only_if b e)
-few_storing true a e = omega arith
-few_storing false a e = omega arith
-
 few_atomic : (op : AtomicOp) (wrote : Bool) (place addr size order fail_order : ℕ) → IsFew (atomic_events op wrote place addr size order fail_order)
 few_atomic ops.Load wrote place addr size order fail_order = few_loading place addr size order
-few_atomic ops.Store wrote place addr size order fail_order =
-    few_storing (releases order) (events.Access place addr size false true) (events.Release addr Main true)
+few_atomic ops.Store wrote place addr size order fail_order = omega arith
 few_atomic ops.Compare true place addr size order fail_order = few_changing place addr size order
 few_atomic ops.Compare false place addr size order fail_order = few_loading place addr size fail_order
 few_atomic _ wrote place addr size order fail_order = few_changing place addr size order

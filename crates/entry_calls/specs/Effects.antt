@@ -27,8 +27,12 @@ only_if test e = if test then e ∷ [] else []
 abbrev pub loading : ℕ → ℕ → ℕ → ℕ → List Event
 loading place addr size order = only_if (acquires order) (events.Acquire addr Main) ++ events.Access place addr size true true ∷ []
 
+-- what a store does to what was released at its address: its own release takes that place, or nothing does
+abbrev pub channel_event : ℕ → ℕ → Event
+channel_event addr order = if releases order then events.Release addr Main true else events.Clear addr
+
 abbrev pub storing : ℕ → ℕ → ℕ → ℕ → List Event
-storing place addr size order = events.Access place addr size false true ∷ [] ++ only_if (releases order) (events.Release addr Main true)
+storing place addr size order = events.Access place addr size false true ∷ channel_event addr order ∷ []
 
 abbrev pub changing : ℕ → ℕ → ℕ → ℕ → List Event
 changing place addr size order =

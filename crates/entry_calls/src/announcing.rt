@@ -1,6 +1,6 @@
 // The events of a call.
 ghost use Rattle.std.specs.Prelude.{◌≡◌, ◌<◌, ◌≤◌, ◌∷◌, ◌++◌, [], true, length, ◌⊎◌, ◌==◌, if◌then◌else◌};
-ghost use Rattle.entry_calls.specs.Effects.{IsAnswered, only_if, acquires, releases, loading, storing, changing, atomic_events, events_by, full, needs};
+ghost use Rattle.entry_calls.specs.Effects.{IsAnswered, only_if, acquires, releases, loading, channel_event, storing, changing, atomic_events, events_by, full, needs};
 
 use crate::{AtomicOp, Call, CallEvents, Outcome};
 use run_record::{Event, Part};
@@ -82,12 +82,21 @@ fn release(addr: u64, replaces: bool) -> Event
     }
 }
 
+fn replace_or_clear(addr: u64, order: u8) -> Event
+    ensures { result ≡ channel_event addr order }
+{
+    if is_releasing(order) {
+        release(addr, true)
+    } else {
+        Event::Clear { addr }
+    }
+}
+
 fn store(place: u64, addr: u64, size: u8, order: u8) -> CallEvents
     ensures { result ≡ storing place addr size order }
 {
-    let mut events = one(atomic_access(place, addr, size, false));
-    push_if(&mut events, is_releasing(order), release(addr, true));
-    events
+    let access = atomic_access(place, addr, size, false);
+    two(access, replace_or_clear(addr, order))
 }
 
 fn change(place: u64, addr: u64, size: u8, order: u8) -> CallEvents

@@ -100,6 +100,8 @@ const JOIN: Event = Event::Release {
     replaces: false,
 };
 
+const CLEAR: Event = Event::Clear { addr: ADDR };
+
 const NONE: Event = Event::Leave;
 
 // The number, the arguments, whether it wrote, and the events: so many of the three.
@@ -111,7 +113,7 @@ const TOLD: [(u64, [u64; 5], bool, usize, [Event; 3]); 17] = [
     (112, [ADDR, 3, 0, 0, 0], false, 1, [READ, NONE, NONE]),
     // atomic64_store: release, acquire, an order above 5
     (113, [ADDR, 1, 3, 0, 0], true, 2, [WRITE, REPLACE, NONE]),
-    (113, [ADDR, 1, 2, 0, 0], true, 1, [WRITE, NONE, NONE]),
+    (113, [ADDR, 1, 2, 0, 0], true, 2, [WRITE, CLEAR, NONE]),
     (113, [ADDR, 1, 6, 0, 0], true, 2, [WRITE, REPLACE, NONE]),
     // atomic64_exchange: acq_rel, an order above 5; atomic8_exchange: consume
     (114, [ADDR, 1, 4, 0, 0], true, 3, [WRITE, ACQUIRE, JOIN]),

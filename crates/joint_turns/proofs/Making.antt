@@ -41,6 +41,7 @@ module _ (g t k made : ℕ) (object : Option ℕ) (arrived : ℕ → Bool) (here
   may_do m taken (events.Acquire addr part) s = subst (IsAt k) s place
   may_do m taken (events.Release addr part replaces) s = subst (IsAt k) s place
   may_do m taken (events.Destroy addr) s = subst (IsAt k) s place
+  may_do m taken (events.Clear addr) s = subst (IsAt k) s place
   may_do m taken (events.Enter frame) s = tt
   may_do m taken events.Leave s = tt
   may_do m taken (events.Lock addr read) s = tt

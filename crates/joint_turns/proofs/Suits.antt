@@ -1,6 +1,6 @@
 -- The events of an instruction are those of the object that it uses.
 use Rattle.std.proofs.Common.{◌≡◌, ◌+◌, ℕ, Bool, true, false, cond, nat_le, nat_eq, List, [], ◌∷◌, ◌++◌, length, slice_get, Option, Some, None, refl, unwrap_or}
-use Rattle.std.specs.Prelude.{◌%◌, ◌==◌, is_some}
+use Rattle.std.specs.Prelude.{◌%◌, ◌==◌, is_some, if◌then◌else◌}
 use Rattle.run_record.specs.declared.event.Event.{Event}
 use Rattle.run_record.specs.declared.event.Event.TheVariants as events
 use Rattle.run_record.specs.declared.event.Part.TheVariants.{Main}
@@ -33,6 +33,7 @@ abbrev pub Suits : Option ℕ → ℕ → Event → Type 0
 Suits object made (events.Acquire addr part) = object ≡ Some (stripe addr)
 Suits object made (events.Release addr part replaces) = object ≡ Some (stripe addr)
 Suits object made (events.Destroy addr) = object ≡ Some (stripe addr)
+Suits object made (events.Clear addr) = object ≡ Some (stripe addr)
 Suits object made (events.Create n) = (object ≡ Some desk) × (n ≡ made)
 Suits object made (events.Join n) = object ≡ Some desk
 Suits object made events.End = object ≡ Some desk
@@ -57,9 +58,9 @@ module _ (made addr : ℕ) where
   acquire_here true = (refl, tt)
   acquire_here false = tt
 
-  release_here : (b replaces : Bool) → Here (only_if b (events.Release addr Main replaces))
-  release_here true replaces = (refl, tt)
-  release_here false replaces = tt
+  release_here : (b : Bool) → Here (only_if b (events.Release addr Main false))
+  release_here true = (refl, tt)
+  release_here false = tt
 
   abbrev suits : Event → Type 0
   suits e = Suits (Some (stripe addr)) made e
@@ -68,12 +69,16 @@ module _ (made addr : ℕ) where
   loading_here place size order = each_append suits (only_if (acquires order) (events.Acquire addr Main)) (events.Access place addr size true true ∷ []) (acquire_here (acquires order)) (tt, tt)
 
   storing_here : (place size order : ℕ) → Here (storing place addr size order)
-  storing_here place size order = each_append suits (events.Access place addr size false true ∷ []) (only_if (releases order) (events.Release addr Main true)) (tt, tt) (release_here (releases order) true)
+  storing_here place size order = (tt, (by_order (releases order), tt))
+    where
+      by_order : (b : Bool) → suits (if b then events.Release addr Main true else events.Clear addr)
+      by_order true = refl
+      by_order false = refl
 
   changing_here : (place size order : ℕ) → Here (changing place addr size order)
   changing_here place size order =
       each_append suits (events.Access place addr size false true ∷ [] ++ only_if (acquires order) (events.Acquire addr Main)) (only_if (releases order) (events.Release addr Main false))
-      (each_append suits (events.Access place addr size false true ∷ []) (only_if (acquires order) (events.Acquire addr Main)) (tt, tt) (acquire_here (acquires order))) (release_here (releases order) false)
+      (each_append suits (events.Access place addr size false true ∷ []) (only_if (acquires order) (events.Acquire addr Main)) (tt, tt) (acquire_here (acquires order))) (release_here (releases order))
 
   atomic_here : (op : AtomicOp) (wrote : Bool) (place size order fail_order : ℕ) → Here (atomic_events op wrote place addr size order fail_order)
   atomic_here ops.Load wrote place size order fail_order = loading_here place size order

@@ -1,5 +1,5 @@
 -- What the events of each call make of the threads.
-use Rattle.std.proofs.Common.{not, ◌≡◌, ◌<◌, ℕ, Bool, true, false, [], ◌∷◌, ◌++◌, Option, Some, None, refl, arith}
+use Rattle.std.proofs.Common.{not, ◌≡◌, ◌<◌, ℕ, Bool, true, false, if◌then◌else◌, [], ◌∷◌, ◌++◌, Option, Some, None, refl, arith}
 use Rattle.run_record.specs.declared.event.Event.TheVariants as events
 use Rattle.run_record.specs.declared.event.Part.{Part}
 use Rattle.run_record.specs.declared.event.Part.TheVariants.{Main, Readers}
@@ -85,8 +85,9 @@ module _ (harts : ℕ) (threads : Threads) (t : ℕ) (alive : threads.lives t �
   acquire_access false place addr size o may =
       record { allowed = (record { alive = alive; first = first; may = may; last = λ e. absurd (cc) }, tt); after_is = refl; few = omega arith; few_pushed = omega arith; without_object = λ e. absurd (cc) }
 
-  access_release : (b : Bool) (place addr size : ℕ) (o : ℕ) → IsSize size → Makes harts threads t (events.Access place addr size false true ∷ [] ++ only_if b (events.Release addr Main true)) (Some o) 3 threads
-  access_release true place addr size o may =
+  access_channel : (b : Bool) (place addr size : ℕ) (o : ℕ) → IsSize size →
+      Makes harts threads t (events.Access place addr size false true ∷ (if b then events.Release addr Main true else events.Clear addr) ∷ []) (Some o) 3 threads
+  access_channel true place addr size o may =
       record {
         allowed = (record { alive = alive; first = first; may = may; last = λ e. absurd (cc) }, (record { alive = alive; first = first; may = tt; last = λ e. refl }, tt));
         after_is = refl;
@@ -94,8 +95,14 @@ module _ (harts : ℕ) (threads : Threads) (t : ℕ) (alive : threads.lives t �
         few_pushed = omega arith;
         without_object = λ e. absurd (cc);
       }
-  access_release false place addr size o may =
-      record { allowed = (record { alive = alive; first = first; may = may; last = λ e. absurd (cc) }, tt); after_is = refl; few = omega arith; few_pushed = omega arith; without_object = λ e. absurd (cc) }
+  access_channel false place addr size o may =
+      record {
+        allowed = (record { alive = alive; first = first; may = may; last = λ e. absurd (cc) }, (record { alive = alive; first = first; may = tt; last = λ e. absurd (cc) }, tt));
+        after_is = refl;
+        few = omega arith;
+        few_pushed = omega arith;
+        without_object = λ e. absurd (cc);
+      }
 
   access_both : (b d : Bool) (place addr size : ℕ) (o : ℕ) → IsSize size →
       Makes harts threads t (events.Access place addr size false true ∷ [] ++ only_if b (events.Acquire addr Main) ++ only_if d (events.Release addr Main false)) (Some o) 3 threads
@@ -131,7 +138,7 @@ module _ (harts : ℕ) (threads : Threads) (t : ℕ) (alive : threads.lives t �
 
   pub atomic_makes : (op : AtomicOp) (wrote : Bool) (place addr size order fail_order o : ℕ) → IsSize size → Makes harts threads t (atomic_events op wrote place addr size order fail_order) (Some o) 3 threads
   atomic_makes ops.Load wrote place addr size order fail_order o may = acquire_access (acquires order) place addr size o may
-  atomic_makes ops.Store wrote place addr size order fail_order o may = access_release (releases order) place addr size o may
+  atomic_makes ops.Store wrote place addr size order fail_order o may = access_channel (releases order) place addr size o may
   atomic_makes ops.Compare true place addr size order fail_order o may = changing_makes place addr size order o may
   atomic_makes ops.Compare false place addr size order fail_order o may = acquire_access (acquires fail_order) place addr size o may
   atomic_makes _ wrote place addr size order fail_order o may = changing_makes place addr size order o may

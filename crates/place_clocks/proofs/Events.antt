@@ -19,7 +19,7 @@ use Rattle.place_clocks.specs.Places.{Clock, Own, Stripe, Desk, Value, of_stripe
 use Rattle.place_clocks.specs.Turns.{Act, does, attaches, begins, leaves, taken, own_after, value_after, stripe_after, joined, clock_or_none, slot_left, ended_after, attached, clock_turn}
 use Rattle.place_clocks.specs.Holds.{Whole, IsSound, HasOwn, HasChannels, HasDesk, HasClocks, MayDo, MayAct, whole_next}
 use Rattle.place_clocks.proofs.Choices.{if_yes}
-use Rattle.place_clocks.proofs.Spots.{spot_stays, IsQuiet, SparesChannel, release_spares, destroy_spares}
+use Rattle.place_clocks.proofs.Spots.{spot_stays, IsQuiet, SparesChannel, release_spares, destroy_spares, clear_spares}
 use Rattle.place_clocks.proofs.Keeping.{KeepsGiven, own_kept, channels_kept, desk_kept, desk_quiet, given_kept, sound_kept}
 use Rattle.place_clocks.proofs.Ending.{desk_ended, sound_ended}
 use Rattle.place_clocks.proofs.Taking.{no_slot, next_is, own_taken, desk_taken, sound_taken}
@@ -135,6 +135,8 @@ module _ (g slots : ℕ) (w : Whole) (m : State Own Value) (h : HasClocks w m) (
       (changes (events.Release addr part replaces) addr refl (record { no_end = refl; not_given = λ u. refl; not_ended = λ u. refl }) (λ a p ne. release_spares t addr part replaces a p ne) (λ s. refl))
   does_is k (events.Destroy addr) may = subst (λ (j : ℕ). Does_to j (events.Destroy addr)) (sym may)
       (changes (events.Destroy addr) addr refl (record { no_end = refl; not_given = λ u. refl; not_ended = λ u. refl }) (λ a p ne. destroy_spares t addr a p ne) (λ s. refl))
+  does_is k (events.Clear addr) may = subst (λ (j : ℕ). Does_to j (events.Clear addr)) (sym may)
+      (changes (events.Clear addr) addr refl (record { no_end = refl; not_given = λ u. refl; not_ended = λ u. refl }) (λ a p ne. clear_spares t addr a p ne) (λ s. refl))
   does_is k (events.Enter frame) may = passes (events.Enter frame) k refl (record { no_end = refl; not_given = λ u. refl; not_ended = λ u. refl }) (λ a p. record { kept = refl; not_left = refl }) (λ s. refl)
   does_is k events.Leave may = passes events.Leave k refl (record { no_end = refl; not_given = λ u. refl; not_ended = λ u. refl }) (λ a p. record { kept = refl; not_left = refl }) (λ s. refl)
   does_is k (events.Lock addr read) may = passes (events.Lock addr read) k refl (record { no_end = refl; not_given = λ u. refl; not_ended = λ u. refl }) (λ a p. record { kept = refl; not_left = refl }) (λ s. refl)

@@ -4,6 +4,7 @@ use Rattle.std.specs.Prelude.{◌&&◌, max}
 use Rattle.run_record.specs.declared.event.Event.{Event}
 use Rattle.run_record.specs.declared.event.Event.TheVariants as events
 use Rattle.run_record.specs.declared.event.Part.{Part}
+use Rattle.run_record.specs.declared.event.Part.TheVariants.{Main}
 use Rattle.run_laws.specs.HappensBefore.{same_part, ends_channel}
 use Rattle.run_laws.specs.Labels.{Labels, holds, is_end}
 use Rattle.run_laws.specs.Clocks.{Clocks, Spot, Left, Channel, Given, Ended, left_at, is_place, leaves, empties, event_clocks}
@@ -41,3 +42,6 @@ release_spares t b q replaces a p ne = record {
 
 pub destroy_spares : (t b a : ℕ) (p : Part) → a ≢ b → SparesChannel t (events.Destroy b) a p
 destroy_spares t b a p ne = record { kept = ne_eqb a b ne; not_left = refl }
+
+pub clear_spares : (t b a : ℕ) (p : Part) → a ≢ b → SparesChannel t (events.Clear b) a p
+clear_spares t b a p ne = record { kept = ap (λ (z : Bool). z && same_part p Main) (ne_eqb a b ne); not_left = refl }

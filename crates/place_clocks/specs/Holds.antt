@@ -1,7 +1,7 @@
 -- When a state by threads and places has the labels, the clocks and the queue of a history.
 use Rattle.std.specs.Prelude.{◌≡◌, ◌≢◌, ℕ, ◌+◌, suc, true, List, [], ◌∷◌, Option, Some, None, option_map}
 use Rattle.run_record.specs.declared.event.Event.{Event}
-use Rattle.run_record.specs.declared.event.Event.TheVariants.{Begin, Create, End, Join, Acquire, Release, Destroy}
+use Rattle.run_record.specs.declared.event.Event.TheVariants.{Begin, Create, End, Join, Acquire, Release, Destroy, Clear}
 use Rattle.run_record.specs.declared.event.Part.{Part}
 use Rattle.run_record.specs.declared.entry.Label.{Label}
 use Rattle.run_record.specs.declared.entry.DeskNote.TheVariants.{Attach}
@@ -82,6 +82,7 @@ abbrev pub MayDo : State Own Value → ℕ → ℕ → Event → Type 0
 MayDo m t k (Acquire addr part) = k ≡ stripe addr
 MayDo m t k (Release addr part replaces) = k ≡ stripe addr
 MayDo m t k (Destroy addr) = k ≡ stripe addr
+MayDo m t k (Clear addr) = k ≡ stripe addr
 MayDo m t k (Create child) = (k ≡ desk) × ((m.local child).given ≡ None)
 MayDo m t k End = k ≡ desk
 MayDo m t k (Join child) = k ≡ desk

@@ -1,7 +1,7 @@
 -- What one event of a thread does to its own label and clock and to those at a place, and how a thread takes a slot.
 use Rattle.std.specs.Prelude.{ℕ, ◌+◌, max, ◌==◌, ◌&&◌, ◌||◌, nat_lt, if◌then◌else◌, List, [], ◌∷◌, ◌++◌, Option, Some, None}
 use Rattle.run_record.specs.declared.event.Event.{Event}
-use Rattle.run_record.specs.declared.event.Event.TheVariants.{Begin, Create, End, Join, Acquire, Release, Destroy}
+use Rattle.run_record.specs.declared.event.Event.TheVariants.{Begin, Create, End, Join, Acquire, Release, Destroy, Clear}
 use Rattle.run_record.specs.declared.entry.DeskNote.TheVariants.{Nothing, Attach, Leave}
 use Rattle.run_record.specs.declared.entry.Label.{Label}
 use Rattle.run_laws.specs.Moments.{Item, Does, Notes}
@@ -49,7 +49,7 @@ own_after g e o v = record { label = label_after g o.label e; clock = λ s. max 
 
 -- ---- the place
 
--- what a Release or a Destroy makes of a stripe's channels, by a thread with this clock
+-- what a Release, a Clear or a Destroy makes of a stripe's channels, by a thread with this clock
 abbrev pub stripe_after : ℕ → Event → Clock → Stripe → Stripe
 stripe_after t e clock x = record {
   channel = λ a p s. max (if ends_channel a p e then 0 else x.channel a p s) (if is_place (left_at t e) (Channel a p) then clock s else 0);
@@ -73,6 +73,7 @@ ended_after t clock d = record d { ended = but d.ended t (joined (d.ended t) clo
 abbrev pub value_after : ℕ → ℕ → Event → Own → Value → Value
 value_after g t (Release addr part replaces) o v = of_stripe (stripe_after t (Release addr part replaces) o.clock (stripe_in v))
 value_after g t (Destroy addr) o v = of_stripe (stripe_after t (Destroy addr) o.clock (stripe_in v))
+value_after g t (Clear addr) o v = of_stripe (stripe_after t (Clear addr) o.clock (stripe_in v))
 value_after g t (Create child) o v = of_desk (record (desk_in v) { given = but (desk_in v).given child (joined ((desk_in v).given child) o.clock) })
 value_after g t End o v = of_desk (ended_after t o.clock (slot_left g o.label o.clock (desk_in v)))
 value_after g t _ o v = v

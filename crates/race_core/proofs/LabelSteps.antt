@@ -3,7 +3,7 @@ use Rattle.std.proofs.Common.{◌≡◌, ◌≢◌, ◌<◌, ◌≤◌, ◌+◌,
 use Rattle.std.specs.Prelude.{option_map}
 use Rattle.std.proofs.lemmas.Bool.{lt-ltb, le-ltb}
 use Rattle.run_record.specs.declared.event.Event.{Event}
-use Rattle.run_record.specs.declared.event.Event.TheVariants.{Begin, Create, End, Join, Enter, Leave, Lock, Unlock, Acquire, Release, Destroy, Access, Put}
+use Rattle.run_record.specs.declared.event.Event.TheVariants.{Begin, Create, End, Join, Enter, Leave, Lock, Unlock, Acquire, Release, Destroy, Clear, Access, Put}
 use Rattle.run_record.specs.declared.entry.Label.{Label}
 use Rattle.run_laws.specs.Moments.{Item, Moment}
 use Rattle.run_laws.specs.Labels.{Labels, holds, is_end, raises, raised, slot_after, event_labels, next_labels}
@@ -86,6 +86,7 @@ raising t (Lock addr read) one = absurd (cc)
 raising t (Unlock addr read) one = absurd (cc)
 raising t (Acquire addr part) one = absurd (cc)
 raising t (Destroy addr) one = absurd (cc)
+raising t (Clear addr) one = absurd (cc)
 raising t (Access place addr size read atomic) one = absurd (cc)
 raising t (Put value count) one = absurd (cc)
 

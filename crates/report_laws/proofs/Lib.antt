@@ -12,3 +12,4 @@ pub mod RaceReports
 pub mod CheckRaces
 pub mod CollectedLaw
 pub mod NextRound
+pub mod OfferedLaw

@@ -2,3 +2,4 @@ pub mod Sound
 pub mod Owners
 pub mod Awaited
 pub mod Races
+pub mod Offered

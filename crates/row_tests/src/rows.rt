@@ -1,6 +1,8 @@
 // Runs of the command over files and sinks in memory.
 mod closure;
+mod counted;
 mod endings;
+mod line_tables;
 mod made;
 mod named;
 mod plans;
@@ -10,7 +12,7 @@ mod reports;
 mod threads;
 mod words;
 
-use crate::{AssemblyError, Form, assemble};
+use crate::{AssemblyError, DebugSection, Form, assemble};
 use std::alloc::{AllocError, Global};
 use std::process::Abort;
 use std::test::Fail;

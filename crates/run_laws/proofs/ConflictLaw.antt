@@ -66,6 +66,7 @@ opposes_rest v w e =
 pub record Told (g : ℕ) (granule_of : ℕ → Option ℕ) (a : Access) (granule w : ℕ) : Type 0 where
   pub block : ℕ
   pub mask_is : mask w ≡ mask_in a block
+  pub some : mask_in a block ≢ 0
   pub granule_is : granule_of (8 * block) ≡ Some granule
   pub read_is : is_read w ≡ a.read
   pub atomic_is : is_atomic w ≡ a.atomic
@@ -90,6 +91,7 @@ told_by limits granule_of needs_slot entries few some most notes checks x t e a 
     record {
       block = f.block;
       mask_is = subst (λ y. mask y ≡ mask_in a f.block) told (mask-word_of f.part.mask f.goes.label a.read a.atomic f.small ∙ f.of_block.mask_is);
+      some = λ z. f.of_block.some (f.of_block.mask_is ∙ z);
       granule_is = f.of_block.granule_is ∙ ap Some (sym f.goes.granule ∙ on);
       read_is = subst (λ y. is_read y ≡ a.read) told (is_read-word_of f.part.mask f.goes.label a.read a.atomic f.small small short);
       atomic_is = subst (λ y. is_atomic y ≡ a.atomic) told (is_atomic-word_of f.part.mask f.goes.label a.read a.atomic f.small small short);

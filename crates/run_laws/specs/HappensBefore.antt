@@ -1,7 +1,7 @@
 -- Happens-before: the pairs that order two events, and their closure.
 use Rattle.std.specs.Prelude.{◌≡◌, ℕ, ◌<◌, ◌==◌, Bool, true, false, ◌&&◌}
 use Rattle.run_record.specs.declared.event.Event.{Event}
-use Rattle.run_record.specs.declared.event.Event.TheVariants.{Begin, Create, End, Join, Acquire, Release, Destroy}
+use Rattle.run_record.specs.declared.event.Event.TheVariants.{Begin, Create, End, Join, Acquire, Release, Destroy, Clear}
 use Rattle.run_record.specs.declared.event.Part.{Part}
 use Rattle.run_record.specs.declared.event.Part.TheVariants.{Main, Readers}
 use Rattle.run_laws.specs.Moments.{Item, Does}
@@ -12,10 +12,11 @@ same_part Readers Readers = true
 same_part Main Readers = false
 same_part Readers Main = false
 
--- A channel is an address with a part. A replacing Release of it ends what was told on it before, and a
--- Destroy of its address ends both of its parts. Nothing else ends a channel.
+-- A channel is an address with a part. A replacing Release of it ends what was told on it before, a Clear of
+-- its address ends the part Main, and a Destroy both parts. Nothing else ends a channel.
 abbrev pub ends_channel : ℕ → Part → Event → Bool
 ends_channel a p (Release b q replaces) = replaces && ((a == b) && same_part p q)
+ends_channel a p (Clear b) = (a == b) && same_part p Main
 ends_channel a p (Destroy b) = a == b
 ends_channel a p _ = false
 

@@ -19,3 +19,5 @@ pub mod Lawful
 pub mod Present
 pub mod Scripts
 pub mod Rows
+pub mod ChannelRows
+pub mod CellRows

@@ -2,7 +2,7 @@
 use Rattle.std.specs.Prelude.{ℕ, zero, suc, ◌+◌, ◌-◌, ◌*◌, ◌/◌, ◌==◌, ◌&&◌, ◌||◌, replicate, option_map, if◌then◌else◌, Bool, true, false, nat_lt, nat_le, List, [], ◌∷◌, ◌++◌, Option, Some, None}
 use Rattle.std.specs.List.{list_any}
 use Rattle.run_record.specs.declared.event.Event.{Event}
-use Rattle.run_record.specs.declared.event.Event.TheVariants.{Begin, Create, End, Enter, Lock, Unlock, Acquire, Release, Access}
+use Rattle.run_record.specs.declared.event.Event.TheVariants.{Begin, Create, End, Enter, Lock, Unlock, Acquire, Release, Clear, Access}
 use Rattle.run_record.specs.declared.event.Part.TheVariants.{Main, Readers}
 use Rattle.run_record.specs.declared.entry.DeskNote.{DeskNote}
 use Rattle.run_record.specs.declared.entry.DeskNote.TheVariants.{Nothing, Attach, Leave}
@@ -145,7 +145,7 @@ handed_over =
 -- The same with a relaxed store of the flag, which releases nothing.
 abbrev pub not_handed_over_scripts : List (List Line)
 not_handed_over_scripts =
-    (at 0 (Begin ∷ []) ∷ at 3 (Create 1 ∷ []) ∷ at 12 (write 0x10028 0x1000000 8 ∷ []) ∷ at 21 (Access 0x1004c 0x1000008 8 false true ∷ []) ∷ at 23 (End ∷ []) ∷ [])
+    (at 0 (Begin ∷ []) ∷ at 3 (Create 1 ∷ []) ∷ at 12 (write 0x10028 0x1000000 8 ∷ []) ∷ at 21 (Access 0x1004c 0x1000008 8 false true ∷ Clear 0x1000008 ∷ []) ∷ at 23 (End ∷ []) ∷ [])
     ∷ (at 0 (Begin ∷ []) ∷ at 8 (Acquire 0x1000008 Main ∷ Access 0x10078 0x1000008 8 true true ∷ []) ∷ at 17 (read 0x1009c 0x1000000 8 ∷ []) ∷ at 19 (End ∷ []) ∷ [])
     ∷ []
 
@@ -153,7 +153,7 @@ abbrev pub not_handed_over : List Entry
 not_handed_over =
     noted 0 0 1 0 (Attach (label 0 1 0))
     ∷ makes 0 0 2 0 4 (Begin ∷ Create 1 ∷ []) []
-    ∷ makes 0 0 3 0 18 (write 0x10028 0x1000000 8 ∷ Access 0x1004c 0x1000008 8 false true ∷ []) (check 0 0 0x200ff 2 zeros (Some 0) ∷ check 1 1 0x800200ff 3 zeros (Some 0) ∷ [])
+    ∷ makes 0 0 3 0 18 (write 0x10028 0x1000000 8 ∷ Access 0x1004c 0x1000008 8 false true ∷ Clear 0x1000008 ∷ []) (check 0 0 0x200ff 2 zeros (Some 0) ∷ check 1 1 0x800200ff 3 zeros (Some 0) ∷ [])
     ∷ makes 0 0 4 0 2 (End ∷ []) []
     ∷ noted 1 0 5 1 (Attach (label 1 1 0))
     ∷ makes 1 0 6 1 9 (Begin ∷ Acquire 0x1000008 Main ∷ Access 0x10078 0x1000008 8 true true ∷ []) (check 2 1 0xc00101ff 1 (0x800200ff ∷ 0 ∷ 0 ∷ 0 ∷ []) (Some 1) ∷ [])
@@ -209,11 +209,37 @@ replaced =
     ∷ makes 2 0 11 2 11 (read 0x100d8 0x1000000 8 ∷ End ∷ []) (check 0 0 0x400102ff 1 (0x300ff ∷ 0 ∷ 0 ∷ 0 ∷ []) (Some 1) ∷ [])
     ∷ []
 
--- A plain write and an atomic one.
+-- A write handed over, and the message taken back: the main thread writes, stores a flag with release, and then
+-- stores it again without; the other loads the flag with acquire and reads.
+abbrev pub taken_back_scripts : List (List Line)
+taken_back_scripts =
+    (at 0 (Begin ∷ []) ∷ at 3 (Create 1 ∷ []) ∷ at 12 (write 0x10028 0x1000000 8 ∷ [])
+    ∷ at 21 (Access 0x1004c 0x1000008 8 false true ∷ Release 0x1000008 Main true ∷ [])
+    ∷ at 30 (Access 0x10070 0x1000008 8 false true ∷ Clear 0x1000008 ∷ []) ∷ at 32 (End ∷ []) ∷ [])
+    ∷ (at 0 (Begin ∷ []) ∷ at 8 (Acquire 0x1000008 Main ∷ Access 0x1009c 0x1000008 8 true true ∷ [])
+    ∷ at 17 (read 0x100c0 0x1000000 8 ∷ []) ∷ at 19 (End ∷ []) ∷ [])
+    ∷ []
+
+abbrev pub taken_back : List Entry
+taken_back =
+    noted 0 0 1 0 (Attach (label 0 1 0))
+    ∷ makes 0 0 2 0 4 (Begin ∷ Create 1 ∷ []) []
+    ∷ makes 0 0 3 0 18 (write 0x10028 0x1000000 8 ∷ Access 0x1004c 0x1000008 8 false true ∷ Release 0x1000008 Main true ∷ [])
+    (check 0 0 0x200ff 2 zeros (Some 0) ∷ check 1 1 0x800200ff 3 zeros (Some 0) ∷ [])
+    ∷ makes 0 0 4 0 9 (Access 0x10070 0x1000008 8 false true ∷ Clear 0x1000008 ∷ [])
+    (check 0 1 0x800300ff 1 (0x800200ff ∷ 0 ∷ 0 ∷ 0 ∷ []) (Some 1) ∷ [])
+    ∷ makes 0 0 5 0 2 (End ∷ []) []
+    ∷ noted 1 0 6 1 (Attach (label 1 1 0))
+    ∷ makes 1 0 7 1 9 (Begin ∷ Acquire 0x1000008 Main ∷ Access 0x1009c 0x1000008 8 true true ∷ [])
+    (check 2 1 0xc00101ff 1 (0x800200ff ∷ 0x800300ff ∷ 0 ∷ 0 ∷ []) (Some 2) ∷ [])
+    ∷ makes 1 0 8 1 11 (read 0x100c0 0x1000000 8 ∷ End ∷ []) (check 0 0 0x400101ff 2 (0x200ff ∷ 0 ∷ 0 ∷ 0 ∷ []) (Some 1) ∷ [])
+    ∷ []
+
+-- A plain write and a relaxed atomic store.
 abbrev pub plain_and_atomic_scripts : List (List Line)
 plain_and_atomic_scripts =
     (at 0 (Begin ∷ []) ∷ at 3 (Create 1 ∷ []) ∷ at 12 (write 0x10028 0x1000000 8 ∷ []) ∷ at 14 (End ∷ []) ∷ [])
-    ∷ calls_once (Access 0x10054 0x1000000 8 false true ∷ [])
+    ∷ calls_once (Access 0x10054 0x1000000 8 false true ∷ Clear 0x1000000 ∷ [])
     ∷ []
 
 abbrev pub plain_and_atomic : List Entry
@@ -222,25 +248,25 @@ plain_and_atomic =
     ∷ makes 0 0 2 0 4 (Begin ∷ Create 1 ∷ []) []
     ∷ makes 0 0 3 0 11 (write 0x10028 0x1000000 8 ∷ End ∷ []) (check 0 0 0x200ff 2 zeros (Some 0) ∷ [])
     ∷ noted 1 0 4 1 (Attach (label 1 1 0))
-    ∷ makes 1 0 5 1 9 (Begin ∷ Access 0x10054 0x1000000 8 false true ∷ []) (check 1 0 0x800101ff 1 (0x200ff ∷ 0 ∷ 0 ∷ 0 ∷ []) (Some 1) ∷ [])
+    ∷ makes 1 0 5 1 9 (Begin ∷ Access 0x10054 0x1000000 8 false true ∷ Clear 0x1000000 ∷ []) (check 1 0 0x800101ff 1 (0x200ff ∷ 0 ∷ 0 ∷ 0 ∷ []) (Some 1) ∷ [])
     ∷ makes 1 0 6 1 2 (End ∷ []) []
     ∷ []
 
--- Two atomic writes.
+-- Two relaxed atomic stores.
 abbrev pub both_atomic_scripts : List (List Line)
 both_atomic_scripts =
-    (at 0 (Begin ∷ []) ∷ at 3 (Create 1 ∷ []) ∷ at 12 (Access 0x10028 0x1000000 8 false true ∷ []) ∷ at 14 (End ∷ []) ∷ [])
-    ∷ calls_once (Access 0x10054 0x1000000 8 false true ∷ [])
+    (at 0 (Begin ∷ []) ∷ at 3 (Create 1 ∷ []) ∷ at 12 (Access 0x10028 0x1000000 8 false true ∷ Clear 0x1000000 ∷ []) ∷ at 14 (End ∷ []) ∷ [])
+    ∷ calls_once (Access 0x10054 0x1000000 8 false true ∷ Clear 0x1000000 ∷ [])
     ∷ []
 
 abbrev pub both_atomic : List Entry
 both_atomic =
     noted 0 0 1 0 (Attach (label 0 1 0))
     ∷ makes 0 0 2 0 4 (Begin ∷ Create 1 ∷ []) []
-    ∷ makes 0 0 3 0 9 (Access 0x10028 0x1000000 8 false true ∷ []) (check 0 0 0x800200ff 2 zeros (Some 0) ∷ [])
+    ∷ makes 0 0 3 0 9 (Access 0x10028 0x1000000 8 false true ∷ Clear 0x1000000 ∷ []) (check 0 0 0x800200ff 2 zeros (Some 0) ∷ [])
     ∷ makes 0 0 4 0 2 (End ∷ []) []
     ∷ noted 1 0 5 1 (Attach (label 1 1 0))
-    ∷ makes 1 0 6 1 9 (Begin ∷ Access 0x10054 0x1000000 8 false true ∷ []) (check 1 0 0x800101ff 1 (0x800200ff ∷ 0 ∷ 0 ∷ 0 ∷ []) (Some 1) ∷ [])
+    ∷ makes 1 0 6 1 9 (Begin ∷ Access 0x10054 0x1000000 8 false true ∷ Clear 0x1000000 ∷ []) (check 1 0 0x800101ff 1 (0x800200ff ∷ 0 ∷ 0 ∷ 0 ∷ []) (Some 1) ∷ [])
     ∷ makes 1 0 7 1 2 (End ∷ []) []
     ∷ []
 

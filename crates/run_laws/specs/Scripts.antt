@@ -30,6 +30,7 @@ object_for (events.Unlock addr read) = Some (addr / 8 % 64)
 object_for (events.Acquire addr part) = Some (addr / 8 % 64)
 object_for (events.Release addr part replaces) = Some (addr / 8 % 64)
 object_for (events.Destroy addr) = Some (addr / 8 % 64)
+object_for (events.Clear addr) = Some (addr / 8 % 64)
 object_for (events.Access place addr size read atomic) = if atomic then Some (addr / 8 % 64) else None
 object_for _ = None
 

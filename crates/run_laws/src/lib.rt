@@ -4,10 +4,13 @@
 //! checks, loads, candidates, stacks, traces, reports, rounds and lawful histories, over a bare machine that is
 //! left open. Its functions do nothing: the contract of each is a law about these definitions. The layers above
 //! cite the definitions in their contracts and the laws in their proofs, `clock_law`, `candidate_law` and
-//! `conflict_law` above all. `rows` shows the definitions at work on small histories.
+//! `conflict_law` above all. `rows`, `channel_rows` and `cell_rows` show the definitions
+//! at work on small histories.
 #![tactic(auto)]
 
 mod candidates;
+pub mod cell_rows;
+pub mod channel_rows;
 mod frames;
 mod loads;
 mod order;

@@ -2,7 +2,7 @@
 
 ghost use Rattle.std.specs.Prelude.{[], ◌∷◌, true, false, Some, None};
 ghost use Rattle.run_laws.specs.Faithful.{OneByOne, AtOnce};
-ghost use Rattle.run_laws.specs.Rows.{Shows, at_once, at_once_scripts, both_atomic, both_atomic_scripts, deep_stack, deep_stack_scripts, fresh_slot, handed_over, handed_over_scripts, locked, locked_scripts, neighbours, neighbours_scripts, no_rules, not_handed_over, not_handed_over_scripts, nothing, only, plain_and_atomic, plain_and_atomic_scripts, recycled_slot, replaced, replaced_scripts, same_race_twice, same_race_twice_scripts, second_place_rule, shared_byte, shared_byte_scripts, side, small_trace, spent_slots, spent_slots_scripts, starved, starved_at_once, starved_scripts, thirty_instructions, three_instructions, three_turns, two_children_scripts, two_epochs, two_harts, two_of_each, two_races, two_races_scripts, two_reads, two_reads_scripts, two_slots, two_turns, two_writes, two_writes_scripts, usual, write_before_create, write_before_create_scripts};
+ghost use Rattle.run_laws.specs.Rows.{Shows, at_once, at_once_scripts, both_atomic, both_atomic_scripts, deep_stack, deep_stack_scripts, fresh_slot, handed_over, handed_over_scripts, locked, locked_scripts, neighbours, neighbours_scripts, no_rules, not_handed_over, not_handed_over_scripts, nothing, only, plain_and_atomic, plain_and_atomic_scripts, recycled_slot, replaced, replaced_scripts, same_race_twice, same_race_twice_scripts, second_place_rule, shared_byte, shared_byte_scripts, side, small_trace, spent_slots, spent_slots_scripts, starved, starved_at_once, starved_scripts, taken_back, taken_back_scripts, thirty_instructions, three_instructions, three_turns, two_children_scripts, two_epochs, two_harts, two_of_each, two_races, two_races_scripts, two_reads, two_reads_scripts, two_slots, two_turns, two_writes, two_writes_scripts, usual, write_before_create, write_before_create_scripts};
 
 /// Two threads write the same bytes without order: one report of the second write and the first.
 pub fn two_writes_without_order()
@@ -37,6 +37,11 @@ pub fn channel_shared_at_once()
 /// A thread acquires a channel on which another's store replaced what the writer told: one report of the read and the write.
 pub fn replacing_release_ends_a_channel()
     ensures { Shows OneByOne usual [] replaced_scripts replaced no_rules (only (side 2 true false 0x1000000 8 (Some (0x100d8 ∷ []))) (side 0 false false 0x1000000 8 (Some (0x10038 ∷ [])))) }
+{}
+
+/// A thread writes and releases a channel, then stores there and releases nothing; another acquires the channel and reads: one report of the read and the write.
+pub fn store_without_release_ends_a_channel()
+    ensures { Shows OneByOne usual [] taken_back_scripts taken_back no_rules (only (side 1 true false 0x1000000 8 (Some (0x100c0 ∷ []))) (side 0 false false 0x1000000 8 (Some (0x10028 ∷ [])))) }
 {}
 
 /// A plain and an atomic write without order: one report.

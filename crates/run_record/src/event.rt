@@ -62,4 +62,8 @@ pub enum Event {
         value: u64,
         count: u8,
     },
+    /// The main object of the address ended: an atomic store put its value there and released nothing.
+    Clear {
+        addr: u64,
+    },
 }

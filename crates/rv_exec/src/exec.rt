@@ -33,12 +33,14 @@ pub enum Effect {
     Fault(GuestFault),
 }
 
+#[inline(always)]
 fn immediate_word(instr: &Instr) -> u64
     ensures { result ≡ immediate instr.now }
 {
     instr.imm.cast_unsigned()
 }
 
+#[inline(always)]
 pub fn advance(regs: &mut Regs)
     ensures { regs.new ≡ next regs.old }
 {
@@ -47,6 +49,7 @@ pub fn advance(regs: &mut Regs)
 }
 
 /// Writes rd, and the next instruction follows.
+#[inline(always)]
 fn write(regs: &mut Regs, rd: u8, word: u64) -> Effect
     requires { rd < 32 }
     ensures { writes regs.old rd word ≡ record { registers = regs.new; effect = result } }
@@ -57,6 +60,7 @@ fn write(regs: &mut Regs, rd: u8, word: u64) -> Effect
 }
 
 /// A jump that keeps the address of the next instruction in rd.
+#[inline(always)]
 fn jump(regs: &mut Regs, rd: u8, target: u64) -> Effect
     requires { rd < 32 }
     ensures { jumps regs.old rd target ≡ record { registers = regs.new; effect = result } }
@@ -70,6 +74,7 @@ fn jump(regs: &mut Regs, rd: u8, target: u64) -> Effect
     Effect::Local
 }
 
+#[inline(always)]
 fn is_taken(op: Op, a: u64, b: u64) -> bool
     ensures { result ≡ holds (meaning op) a b }
 {
@@ -84,6 +89,7 @@ fn is_taken(op: Op, a: u64, b: u64) -> bool
     }
 }
 
+#[inline(always)]
 fn branch(regs: &mut Regs, instr: &Instr, taken: bool) -> Effect
     ensures { branches regs.old instr.now taken ≡ record { registers = regs.new; effect = result } }
 {
@@ -100,6 +106,7 @@ fn branch(regs: &mut Regs, instr: &Instr, taken: bool) -> Effect
 }
 
 /// The effect, or the fault of an address that isn't a multiple of the size.
+#[inline(always)]
 fn ask(addr: u64, size: u8, effect: Effect) -> Effect
     requires { 0 < size }
     ensures { result ≡ asked addr size effect }
@@ -112,6 +119,7 @@ fn ask(addr: u64, size: u8, effect: Effect) -> Effect
 }
 
 /// rs1 + imm.
+#[inline(always)]
 fn offset_base(regs: &Regs, instr: &Instr) -> u64
     requires { IsInstr instr.now }
     ensures { result ≡ address instr.now regs.now }
@@ -120,6 +128,7 @@ fn offset_base(regs: &Regs, instr: &Instr) -> u64
 }
 
 /// What an instruction with a result computes of two words.
+#[inline(always)]
 fn compute(op: Op, a: u64, b: u64) -> u64
     ensures { result ≡ computed (meaning op) a b }
 {
@@ -156,6 +165,7 @@ fn compute(op: Op, a: u64, b: u64) -> u64
     }
 }
 
+#[inline(always)]
 fn load(regs: &Regs, instr: &Instr, size: u8) -> Effect
     requires instr { IsInstr instr.now }
     requires size { 0 < size }
@@ -165,6 +175,7 @@ fn load(regs: &Regs, instr: &Instr, size: u8) -> Effect
     ask(addr, size, Effect::Load { addr, size })
 }
 
+#[inline(always)]
 fn store(regs: &Regs, instr: &Instr, size: u8) -> Effect
     requires instr { IsInstr instr.now }
     requires size { 0 < size }
@@ -175,6 +186,7 @@ fn store(regs: &Regs, instr: &Instr, size: u8) -> Effect
     ask(addr, size, Effect::Store { addr, size, value })
 }
 
+#[inline(always)]
 fn reserve(regs: &Regs, instr: &Instr, size: u8) -> Effect
     requires instr { IsInstr instr.now }
     requires size { 0 < size }
@@ -184,6 +196,7 @@ fn reserve(regs: &Regs, instr: &Instr, size: u8) -> Effect
     ask(addr, size, Effect::Reserve { addr, size })
 }
 
+#[inline(always)]
 fn conditional(regs: &Regs, instr: &Instr, size: u8) -> Effect
     requires instr { IsInstr instr.now }
     requires size { 0 < size }
@@ -194,6 +207,7 @@ fn conditional(regs: &Regs, instr: &Instr, size: u8) -> Effect
     ask(addr, size, Effect::Conditional { addr, size, value })
 }
 
+#[inline(always)]
 fn atomic(regs: &Regs, instr: &Instr, size: u8) -> Effect
     requires instr { IsInstr instr.now }
     requires size { 0 < size }
@@ -204,6 +218,7 @@ fn atomic(regs: &Regs, instr: &Instr, size: u8) -> Effect
     ask(addr, size, Effect::Amo { addr, size, arg })
 }
 
+#[inline(always)]
 fn execute(regs: &mut Regs, instr: &Instr) -> Effect
     requires { IsInstr instr.now }
     ensures { done_by instr.now.op instr.now regs.old ≡ record { registers = regs.new; effect = result } }
@@ -286,6 +301,7 @@ fn execute(regs: &mut Regs, instr: &Instr) -> Effect
 /// Begins an instruction. `Local` has written rd and the address of the next instruction; every
 /// other effect changes no register. A fault is a breakpoint, or an address that isn't a multiple of
 /// the size, or of four where control goes.
+#[inline(always)]
 pub fn begin(regs: &mut Regs, instr: &Instr) -> Effect
     requires { IsInstr instr.now }
     ensures value { done_by instr.now.op instr.now regs.old ≡ record { registers = regs.new; effect = result } }

@@ -31,6 +31,7 @@ impl Regs {
         Regs { pc, x: [0; 32] }
     }
 
+    #[inline(always)]
     pub fn get(&self, n: u8) -> u64
         requires { n < 32 }
         ensures { result ≡ value self.now n }
@@ -38,6 +39,7 @@ impl Regs {
         if n == 0 { 0 } else { self.x[n as usize] }
     }
 
+    #[inline(always)]
     pub fn set(&mut self, n: u8, to: u64)
         requires { n < 32 }
         ensures { self.new ≡ put self.old n to }
@@ -47,12 +49,14 @@ impl Regs {
         }
     }
 
+    #[inline(always)]
     pub fn pc(&self) -> u64
         ensures { result ≡ self.now.pc }
     {
         self.pc
     }
 
+    #[inline(always)]
     pub fn set_pc(&mut self, pc: u64)
         ensures { self.new ≡ at_pc self.old pc }
     {

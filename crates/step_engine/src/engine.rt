@@ -14,6 +14,7 @@ ghost use Rattle.step_engine.specs.Run.{IsRun};
 
 use crate::turns::{add_live, due_turn, end_in, keep_live, next_live};
 use elf_image::Image;
+use guest_code::Code;
 use report_text::{Asked, Reporter, Suppressions};
 use run_record::{
     Bytes, Entries, Finished, GuestEnd, LastState, Limits, NoMemory, Plan, Record, Turn,
@@ -91,7 +92,14 @@ impl Engine {
 
     // The instructions of a round: turns of its thread, until it made as many as given, ended or was starved.
     // It counts as starved only where it made fewer than given.
-    fn turns(&mut self, alloc: Global, image: &Image<'_>, due: Due) -> Result<TurnEnd, NoMemory>
+    fn turns(
+        &mut self,
+        alloc: Global,
+        image: &Image<'_>,
+        code: &Code<'_>,
+        due: Due,
+    ) -> Result<TurnEnd, NoMemory>
+        requires code { code.now ≡ image.now }
         requires can { CanRound self.old due }
         requires some { 0 < due.given }
         requires ready { IsReady image.now (limits_of self.old) self.old }
@@ -103,6 +111,7 @@ impl Engine {
             let end = self.watched.take_turn(
                 alloc,
                 image,
+                code,
                 &mut self.entries,
                 self.round,
                 due.tid,
@@ -122,9 +131,11 @@ impl Engine {
         &mut self,
         alloc: Global,
         image: &Image<'_>,
+        code: &Code<'_>,
         suppressions: &mut Asked<'_, S>,
         due: Due,
     ) -> Result<(), NoMemory>
+        requires code { code.now ≡ image.now }
         requires can { CanRound self.old due }
         requires some { 0 < due.given }
         requires ready { IsReady image.now (limits_of self.old) self.old }
@@ -134,7 +145,7 @@ impl Engine {
         ensures rules { suppressions.new ≡ suppressions.old }
     {
         image.accepted();
-        let end = self.turns(alloc, image, due)?;
+        let end = self.turns(alloc, image, code, due)?;
         self.watched
             .detector
             .tell(alloc, image, suppressions, &mut self.reporter)?;
@@ -154,10 +165,12 @@ impl Engine {
         &mut self,
         alloc: Global,
         image: &Image<'_>,
+        code: &Code<'_>,
         limits: &Limits,
         plan: &[Turn],
         suppressions: &mut Asked<'_, S>,
     ) -> Result<GuestEnd, NoMemory>
+        requires code { code.now ≡ image.now }
         requires reached { rounds.Reaches OneByOne limits.now (bare_of image.now limits.now.harts) plan.now (progress self.old plan.now) }
         requires turn { self.old.turn ≤ length plan.now }
         requires ready { IsReady image.now limits.now self.old }
@@ -180,7 +193,7 @@ impl Engine {
                 return Ok(GuestEnd::Budget);
             }
             let made = self.watched.machine.threads();
-            self.round(alloc, image, suppressions, due)?;
+            self.round(alloc, image, code, suppressions, due)?;
             keep_live(&self.watched.machine, &mut live);
             add_live(&self.watched.machine, &mut live, made)?;
         }
@@ -201,7 +214,15 @@ pub fn run_plan<S: Suppressions>(
     image.accepted();
     let mut engine = Engine::new(alloc, image, limits)?;
     let mut suppressions = Asked::new(alloc, suppressions);
-    let end = engine.run(alloc, image, limits, plan.as_slice(), &mut suppressions)?;
+    let code = Code::new(alloc, image)?;
+    let end = engine.run(
+        alloc,
+        image,
+        &code,
+        limits,
+        plan.as_slice(),
+        &mut suppressions,
+    )?;
     let last = LastState {
         threads: engine.watched.machine.threads(),
         rounds: engine.round,

@@ -8,8 +8,9 @@ use Rattle.std.proofs.lemmas.List.{length-replicate}
 use Rattle.vector_clock.specs.Clocks.{joined}
 use Rattle.vector_clock.proofs.ClockLaws.{get_or-cleared, get_or-joined}
 use Rattle.run_record.specs.declared.event.Event.{Event}
-use Rattle.run_record.specs.declared.event.Event.TheVariants.{Acquire, Release, Destroy}
+use Rattle.run_record.specs.declared.event.Event.TheVariants.{Acquire, Release, Destroy, Clear}
 use Rattle.run_record.specs.declared.event.Part.{Part}
+use Rattle.run_record.specs.declared.event.Part.TheVariants.{Main}
 use Rattle.run_record.specs.declared.entry.DeskNote.{DeskNote}
 use Rattle.run_record.specs.declared.entry.DeskNote.TheVariants.{Nothing, Attach, Leave}
 use Rattle.run_laws.specs.HappensBefore.{same_part}
@@ -18,7 +19,7 @@ use Rattle.run_laws.specs.Labels.{Labels, holds, raised, can_attach}
 use Rattle.run_laws.specs.Clocks.{Clocks, Spot, Channel, Of, leaves, empties, attach_clocks, event_clocks, next_clocks, no_clocks}
 use Rattle.sync_slab.specs.Ids.{same_id-refl, same_id-true, same_id_equiv}
 use Rattle.sync_slab.specs.declared.id.ObjectId.{ObjectId}
-use Rattle.sync_slab.specs.Objects.{SyncObject, SyncObjects, is_of, object_at, clock_of, clock_in, AreObjects, Puts, Ends}
+use Rattle.sync_slab.specs.Objects.{SyncObject, SyncObjects, is_of, object_at, clock_of, clock_in, AreObjects, Puts, Ends, Removes}
 use Rattle.sync_slab.specs.Channels.{IsClock, KeepsChannels, IsElsewhere}
 
 -- an object of another era counts as absent
@@ -159,6 +160,30 @@ destroyed g l covers era t addr k old new keeps ends objects = record {
   ];
 }
 
+pub cleared : (g : ℕ) (l : Labels) (covers : ℕ → Bool) (era t addr : ℕ) (k : Clocks) (old new : SyncObjects) → KeepsChannels covers era k old → Removes old new addr Main → AreObjects new → KeepsChannels covers era (event_clocks g l k t (Clear addr)) new
+cleared g l covers era t addr k old new keeps removes objects = record {
+  objects = objects;
+  clocks = λ a p covered s. elim (cases_Bool (is_at a p addr Main)) [
+    | inl here ↦
+        let is = is_at-true a p addr Main here in
+        let none : object_at new a p ≡ None = ap₂ (λ (x : ℕ) (y : Part). object_at new x y) is.0 is.1 ∙ removes.gone in
+        ap (λ (o : Option SyncObject). get_or (clock_of new.slots era o) s 0) none
+        ∙ (get_or-cleared new.slots s ∙ ap (λ b. max (if b then 0 else k.spot (Of (Channel a p)) s) 0) (sym here))
+    | inr differs ↦
+        let same : clock_in new era a p ≡ clock_in old era a p =
+        ap₂ (λ (n : ℕ) (o : Option SyncObject). clock_of n era o) removes.slots (removes.others a p differs) in
+        ap (λ (c : List ℕ). get_or c s 0) same
+        ∙ (keeps.clocks a p covered s ∙ sym (spot_kept g l k t (Clear addr) (Of (Channel a p)) s differs refl))
+  ];
+  eras = λ a p o found. elim (cases_Bool (is_at a p addr Main)) [
+    | inl here ↦
+        let is = is_at-true a p addr Main here in
+        let none : None ≡ Some o = sym (ap₂ (λ (x : ℕ) (y : Part). object_at new x y) is.0 is.1 ∙ removes.gone) ∙ found in
+        absurd (cc)
+    | inr differs ↦ keeps.eras a p o (sym (removes.others a p differs) ∙ found)
+  ];
+}
+
 -- an event elsewhere
 apart_addr : (covers : ℕ → Bool) (a addr : ℕ) → covers a ≡ true → covers addr ≡ false → (a == addr) ≡ false
 apart_addr covers a addr covered not_covered = ne_eqb a addr (λ same. let both = sym covered ∙ (ap covers same ∙ not_covered) in cc)
@@ -168,6 +193,7 @@ untouched l covers t (Release addr part replaces) a p not_covered covered =
     let differs : is_at a p addr part ≡ false = ap (λ b. b && same_part p part) (apart_addr covers a addr covered not_covered) in
     (ap (λ b. replaces && b) differs ∙ elim replaces as (λ r. r && false ≡ false) [ true ↦ refl | false ↦ refl ], is_at-flip addr part a p ∙ differs)
 untouched l covers t (Destroy addr) a p not_covered covered = (apart_addr covers a addr covered not_covered, refl)
+untouched l covers t (Clear addr) a p not_covered covered = (ap (λ b. b && same_part p Main) (apart_addr covers a addr covered not_covered), refl)
 untouched l covers t _ a p elsewhere covered = (refl, refl)
 
 pub keeps-elsewhere : (g : ℕ) (l : Labels) (covers : ℕ → Bool) (era t : ℕ) (e : Event) (k : Clocks) (set : SyncObjects) → IsElsewhere covers e → KeepsChannels covers era k set → KeepsChannels covers era (event_clocks g l k t e) set

@@ -1,7 +1,7 @@
 -- What a set of objects is to the clocks of a history.
 use Rattle.std.specs.Prelude.{◌≡◌, ◌≤◌, ℕ, Bool, true, false, List, Some, slice_index}
 use Rattle.run_record.specs.declared.event.Event.{Event}
-use Rattle.run_record.specs.declared.event.Event.TheVariants.{Release, Destroy}
+use Rattle.run_record.specs.declared.event.Event.TheVariants.{Release, Destroy, Clear}
 use Rattle.run_record.specs.declared.event.Part.{Part}
 use Rattle.run_laws.specs.Clocks.{Clocks, Channel, Of}
 use Rattle.sync_slab.specs.Objects.{SyncObject, SyncObjects, object_at, clock_in, AreObjects}
@@ -24,4 +24,5 @@ everywhere addr = true
 abbrev pub IsElsewhere : (ℕ → Bool) → Event → Type 0
 IsElsewhere covers (Release addr part replaces) = covers addr ≡ false
 IsElsewhere covers (Destroy addr) = covers addr ≡ false
+IsElsewhere covers (Clear addr) = covers addr ≡ false
 IsElsewhere covers _ = Unit {0}

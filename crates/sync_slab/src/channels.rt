@@ -2,14 +2,15 @@
 
 ghost use Rattle.std.specs.Prelude.{◌≡◌, ◌+◌, ℕ, Bool, true, false, List, [], length};
 ghost use Rattle.run_record.specs.declared.event.Event.{Event};
-ghost use Rattle.run_record.specs.declared.event.Event.TheVariants.{Acquire, Release, Destroy};
+ghost use Rattle.run_record.specs.declared.event.Event.TheVariants.{Acquire, Release, Destroy, Clear};
 ghost use Rattle.run_record.specs.declared.event.Part.{Part};
+ghost use Rattle.run_record.specs.declared.event.Part.TheVariants.{Main};
 ghost use Rattle.run_record.specs.declared.entry.DeskNote.{DeskNote};
 ghost use Rattle.run_laws.specs.Moments.{Notes, NewEra};
 ghost use Rattle.run_laws.specs.Labels.{Labels};
 ghost use Rattle.run_laws.specs.Clocks.{Clocks, event_clocks, next_clocks, no_clocks};
 ghost use Rattle.vector_clock.specs.Clocks.{joined};
-ghost use Rattle.sync_slab.specs.Objects.{SyncObjects, AreObjects, clock_in, Puts, Ends};
+ghost use Rattle.sync_slab.specs.Objects.{SyncObjects, AreObjects, clock_in, Puts, Ends, Removes};
 ghost use Rattle.sync_slab.specs.Channels.{IsClock, KeepsChannels, IsElsewhere};
 
 /// An empty set keeps the channels before anything was left at them.
@@ -47,7 +48,15 @@ pub fn destroy_law()
         KeepsChannels covers era k old → Ends old new addr → AreObjects new → KeepsChannels covers era (event_clocks g l k t (Destroy addr)) new }
 {}
 
-/// The set that keeps the channels goes on to keep them with no call where an event isn't a Release or a Destroy of an address that it covers, at a note, and where an era begins.
+/// After `clear` the set keeps the channels as a Clear leaves them.
+pub fn clear_law()
+    ensures { (g : ℕ) (l : Labels) (covers : ℕ → Bool) (era t addr : ℕ) (k : Clocks) (old new : SyncObjects) →
+        KeepsChannels covers era k old → Removes old new addr Main → AreObjects new →
+        KeepsChannels covers era (event_clocks g l k t (Clear addr)) new }
+{}
+
+/// The set that keeps the channels goes on to keep them with no call where an event isn't a Release, a Clear or a
+/// Destroy of an address that it covers, at a note, and where an era begins.
 pub fn rest_law()
     ensures event { (g : ℕ) (l : Labels) (covers : ℕ → Bool) (era t : ℕ) (e : Event) (k : Clocks) (set : SyncObjects) →
         IsElsewhere covers e → KeepsChannels covers era k set → KeepsChannels covers era (event_clocks g l k t e) set }

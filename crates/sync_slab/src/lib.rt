@@ -14,5 +14,7 @@ mod set;
 #[cfg(test)]
 mod tests;
 
-pub use channels::{acquire_law, destroy_law, empty_law, release_law, reserve_law, rest_law};
+pub use channels::{
+    acquire_law, clear_law, destroy_law, empty_law, release_law, reserve_law, rest_law,
+};
 pub use set::SyncSet;

@@ -44,6 +44,7 @@ impl Model for SyncSet {
 }
 
 impl SyncSet {
+    ghost use Rattle.run_record.specs.declared.event.Part.TheVariants.{Main};
     ghost use Rattle.sync_slab.specs.Objects.{AreObjects, object_at, clock_in, Puts, Ends, Removes};
 
     /// No objects. Their clocks will have 1 to 255 slots.
@@ -154,6 +155,19 @@ impl SyncSet {
             addr,
             part: Part::Readers,
         });
+    }
+
+    /// Takes the object of the address and the part Main away.
+    pub fn clear(&mut self, addr: u64)
+        ensures removes { Removes self.old self.new addr Main }
+        ensures objects { AreObjects self.new }
+        ensures spare { self.old.spare ≤ self.new.spare }
+    {
+        let main = ObjectId {
+            addr,
+            part: Part::Main,
+        };
+        self.remove(main);
     }
 
     // Takes an object away, and keeps its clock for the next new one where none is kept.

@@ -11,10 +11,11 @@ use vector_clock::Clock;
 enum Call {
     Store,
     Join,
+    Clear,
     Destroy,
 }
 
-use Call::{Destroy, Join, Store};
+use Call::{Clear, Destroy, Join, Store};
 use Part::{Main, Readers};
 
 // The epochs of two slots.
@@ -70,6 +71,7 @@ fn make(alloc: Global, set: &mut SyncSet, row: &Row) -> Result<(), NoMemory>
     match row.call {
         Store => set.release_store(row.era, row.addr, row.part, &clock),
         Join => set.release_join(row.era, row.addr, row.part, &clock),
+        Clear => set.clear(row.addr),
         Destroy => set.destroy(row.addr),
     }
     Ok(())
@@ -110,6 +112,8 @@ fn keeps_clocks_of_an_era(rt: HostRuntime) -> Result<(), Fail> {
         after(Join, 1, 8, Main, (0, 4), (0, 4), (0, 0)),
         after(Store, 1, 16, Main, (9, 9), (0, 4), (0, 0)),
         after(Join, 1, 8, Readers, (2, 2), (0, 4), (2, 2)),
+        after(Clear, 1, 8, Main, (0, 0), (0, 0), (2, 2)),
+        after(Store, 1, 8, Main, (3, 0), (3, 0), (2, 2)),
         after(Destroy, 1, 8, Main, (0, 0), (0, 0), (0, 0)),
         after(Join, 1, 8, Main, (6, 0), (6, 0), (0, 0)),
     ];

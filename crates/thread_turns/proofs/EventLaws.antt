@@ -105,6 +105,7 @@ slot_stays g h m t sid e made last slot =
     kept (events.Unlock addr read) q = refl
     kept (events.Acquire addr part) q = refl
     kept (events.Destroy addr) q = refl
+    kept (events.Clear addr) q = refl
     kept (events.Access place addr size read atomic) q = refl
     kept (events.Put value count) q = refl
 
@@ -209,6 +210,7 @@ module _ (s : Setting) (threads : Threads) (e : Event) (rest : List Event) (p : 
       go (events.Acquire addr part) a = tt
       go (events.Release addr part replaces) a = tt
       go (events.Destroy addr) a = tt
+      go (events.Clear addr) a = tt
       go (events.Put value count) a = tt
 
   pub limits_are : d.limits ≡ s.limits
@@ -260,6 +262,7 @@ module _ (s : Setting) (threads : Threads) (e : Event) (rest : List Event) (p : 
         go (events.Acquire addr part) a = stays s.limits.harts threads d.desk t (events.Acquire addr part) rest may.hearing.agrees a (λ x. cc) (λ n x. cc)
         go (events.Release addr part replaces) a = stays s.limits.harts threads d.desk t (events.Release addr part replaces) rest may.hearing.agrees a (λ x. cc) (λ n x. cc)
         go (events.Destroy addr) a = stays s.limits.harts threads d.desk t (events.Destroy addr) rest may.hearing.agrees a (λ x. cc) (λ n x. cc)
+        go (events.Clear addr) a = stays s.limits.harts threads d.desk t (events.Clear addr) rest may.hearing.agrees a (λ x. cc) (λ n x. cc)
         go (events.Put value count) a = stays s.limits.harts threads d.desk t (events.Put value count) rest may.hearing.agrees a (λ x. cc) (λ n x. cc)
 
     depths : (u : ℕ) → length (frames_now (h ++ m ∷ []) u) ≡ (threads_after t threads e).depth u

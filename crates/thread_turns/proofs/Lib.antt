@@ -4,3 +4,4 @@ pub mod InstructionLaws
 pub mod ReadyLaws
 pub mod PartLaws
 pub mod EndLaws
+pub mod LocalRuns

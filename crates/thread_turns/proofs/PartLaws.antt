@@ -4,7 +4,7 @@ use Rattle.std.specs.Prelude.{if◌then◌else◌}
 use Rattle.thread_turns.specs.declared.part.Part.{Part}
 use Rattle.thread_turns.specs.declared.watched.WatchedMachine.{WatchedMachine}
 use Rattle.thread_turns.specs.Going.{Setting, first, IsGoingOn}
-use Rattle.thread_turns.specs.Turned.{IsTurnOf, IsStopped, ReadiesAll, IsNext, MakesNext, BeginsPart, RunsPart}
+use Rattle.thread_turns.specs.Turned.{IsTurnOf, IsStopped, ReadiesAll, IsNext, MakesNext, Goes, RunsLocals, BeginsPart, RunsPart}
 
 -- what has come of the turn so far
 pub record Partly (s : Setting) (stopped : Bool) (q : Part) (w : WatchedMachine) (most : ℕ) : Type 0 where
@@ -28,6 +28,15 @@ module _ (file : List ℕ) (tid most : ℕ) (p q : Part) (old w : WatchedMachine
 
   pub part_turn : q.steps < most → IsTurnOf file tid q w
   part_turn more = record { setting = begins.setting; file_is = begins.file_is; tid_is = begins.tid_is; going_on = here.going_on; room = let r = begins.room in omega arith }
+
+  -- instructions that touch registers alone come first
+  goes_by : (r : Part) (v : WatchedMachine) → RunsLocals file tid most q r w v → Goes begins.setting most q r v
+  goes_by r v runs = runs begins.setting begins.file_is begins.tid_is here.going_on begins.room
+
+  pub part_locals : (r : Part) (v : WatchedMachine) → RunsLocals file tid most q r w v → PartlyAll file tid most false p r old v
+  part_locals r v runs s f t none unused going room =
+      let now = runs s f t (so_far s f t none unused going room).going_on room in
+      record { going_on = now.going_on; no_more = now.no_more; stopped_is = λ z. absurd (cc) }
 
   pub part_next : (r : Part) (v : WatchedMachine) → q.steps < most → ReadiesAll file tid true q r w v → IsNext file tid r v
   part_next r v more readies =
@@ -83,6 +92,22 @@ part_ends file tid most stopped p q old new positive so_far ended s f t none unu
       stopped = now.stopped_is;
     }
 
+-- the code is the file's
+pub turn_of_code : (file code : List ℕ) (tid : ℕ) (p : Part) (w : WatchedMachine) → code ≡ file → IsTurnOf file tid p w → IsTurnOf code tid p w
+turn_of_code file code tid p w same turn = subst (λ (f : List ℕ). IsTurnOf f tid p w) (sym same) turn
+
+locals_of_code : (file code : List ℕ) (tid most : ℕ) (q r : Part) (w v : WatchedMachine) → code ≡ file → RunsLocals code tid most q r w v → RunsLocals file tid most q r w v
+locals_of_code file code tid most q r w v same runs = subst (λ (f : List ℕ). RunsLocals f tid most q r w v) same runs
+
+pub after_locals : (file code : List ℕ) (tid most : ℕ) (b : Bool) (p q r : Part) (old w v : WatchedMachine) → BeginsPart file tid most p old → b ≡ false → PartlyAll file tid most b p q old w → code ≡ file → RunsLocals code tid most q r w v → PartlyAll file tid most false p r old v
+after_locals file code tid most b p q r old w v begins is all same runs =
+    part_locals file tid most p q old w begins (subst (λ (x : Bool). PartlyAll file tid most x p q old w) is all) r v (locals_of_code file code tid most q r w v same runs)
+
+pub few_locals : (file code : List ℕ) (tid most : ℕ) (b : Bool) (p q r : Part) (old w v : WatchedMachine) → BeginsPart file tid most p old → b ≡ false → PartlyAll file tid most b p q old w → code ≡ file → RunsLocals code tid most q r w v → (q.steps ≤ r.steps) × (r.steps ≤ most) × (r.used ≡ false)
+few_locals file code tid most b p q r old w v begins is all same runs =
+    let goes = goes_by file tid most p q old w begins (subst (λ (x : Bool). PartlyAll file tid most x p q old w) is all) r v (locals_of_code file code tid most q r w v same runs) in
+    (goes.no_less, goes.no_more, goes.unused)
+
 not_false : (b : Bool) → not b ≡ true → b ≡ false
 not_false true z = absurd (cc)
 not_false false z = refl
@@ -100,8 +125,11 @@ goes_true file tid b q r w v is all = subst (λ (x : Bool). ReadiesAll file tid 
 pub goes_false : (file : List ℕ) (tid : ℕ) (b : Bool) (q r : Part) (w v : WatchedMachine) → b ≡ false → ReadiesAll file tid b q r w v → ReadiesAll file tid false q r w v
 goes_false file tid b q r w v is all = subst (λ (x : Bool). ReadiesAll file tid x q r w v) is all
 
-pub smaller_step : (most steps later : ℕ) (b : Bool) → b ≡ false → later ≡ steps + 1 → steps < most → left most later b < left most steps b
-smaller_step most steps later b is next less = rw is (omega arith)
+pub smaller_step : (most steps now later : ℕ) (b : Bool) → b ≡ false → steps ≤ now → later ≡ now + 1 → now < most → left most later b < left most steps b
+smaller_step most steps now later b is grows next less = rw is (omega arith)
 
-pub smaller_stop : (most steps later : ℕ) (b : Bool) → b ≡ false → later ≡ steps → left most later true < left most steps b
-smaller_stop most steps later b is same = rw is (omega arith)
+pub smaller_stop : (most steps now later : ℕ) (b : Bool) → b ≡ false → steps ≤ now → later ≡ now → left most later true < left most steps b
+smaller_stop most steps now later b is grows same = rw is (omega arith)
+
+pub smaller_all : (most steps later : ℕ) (b : Bool) → steps < most → later ≡ most → left most later b < left most steps b
+smaller_all most steps later b less all = omega arith

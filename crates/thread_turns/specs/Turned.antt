@@ -87,6 +87,19 @@ MakesNext file tid p q old new =
     (s : Setting) → s.file ≡ file → s.tid ≡ tid → IsGoingOn s 1 p old → CanGo s p old → length (first s) + 8 * (p.steps + 1) < 2 ^ 32 →
     IsGoingOn s 0 q new × (q.steps ≡ p.steps + 1)
 
+-- ---- instructions that touch registers alone
+
+-- the thread has made some, or none, and goes on
+pub record Goes (s : Setting) (most : ℕ) (p q : Part) (w : WatchedMachine) : Type 0 where
+  pub going_on : IsGoingOn s 0 q w
+  pub no_less : p.steps ≤ q.steps
+  pub no_more : q.steps ≤ most
+  pub unused : q.used ≡ false
+
+abbrev pub RunsLocals : List ℕ → ℕ → ℕ → Part → Part → WatchedMachine → WatchedMachine → Type 0
+RunsLocals file tid most p q old new =
+    (s : Setting) → s.file ≡ file → s.tid ≡ tid → IsGoingOn s 0 p old → length (first s) + 8 * most < 2 ^ 32 → Goes s most p q new
+
 -- ---- all instructions of a turn
 
 -- The instructions ended: after one that uses an object, or as many as the turn gives, or with the thread, or for want of a slot.

@@ -1,11 +1,12 @@
 // One turn of a thread.
 ghost use Rattle.std.specs.Prelude.{◌≡◌, ◌≤◌, ◌<◌, ◌+◌, true, false, None, [], length, IfOk, OnOk};
 ghost use Rattle.bare_machine.specs.World.{lives};
-ghost use Rattle.thread_turns.specs.Turned.{CanHearAll, HearsAll, IsTurnOf, ReadiesAll, IsNext, MakesNext, BeginsPart, RunsPart};
+ghost use Rattle.thread_turns.specs.Turned.{CanHearAll, HearsAll, IsTurnOf, ReadiesAll, IsNext, MakesNext, RunsLocals, BeginsPart, RunsPart};
 
 use crate::{Part, WatchedMachine};
 use detector::Detector;
 use elf_image::Image;
+use guest_code::Code;
 use run_record::{Event, NoMemory};
 use std::alloc::Global;
 
@@ -75,21 +76,37 @@ impl WatchedMachine {
         Ok(())
     }
 
+    // The thread's next instructions, as long as they touch its registers alone and the turn gives more.
+    fn run_locals(&mut self, code: &Code<'_>, tid: u32, most: u32, part: &mut Part)
+        requires unused { part.old.used ≡ false }
+        requires few { part.old.steps ≤ most }
+        requires turn { IsTurnOf code.now tid part.old self.old }
+        ensures { RunsLocals code.now tid most part.old part.new self.old self.new }
+    {
+        part.steps += self.machine.run_locals(code, tid, most - part.steps);
+    }
+
     // The instructions of a turn, at most so many. Says whether they ended since no slot was free.
     pub(crate) fn run_part(
         &mut self,
         alloc: Global,
         image: &Image<'_>,
+        code: &Code<'_>,
         tid: u32,
         most: u32,
         part: &mut Part,
     ) -> Result<bool, NoMemory>
+        requires code { code.now ≡ image.now }
         requires some { 1 ≤ most }
         requires turn { BeginsPart image.now tid most part.old self.old }
         ensures { IfOk result (λ stopped. RunsPart image.now tid most stopped part.old part.new self.old self.new) }
     {
         let mut stopped = false;
         'steps: while !stopped && !part.used && part.steps < most {
+            self.run_locals(code, tid, most, part);
+            if part.steps == most {
+                continue 'steps;
+            }
             if self.ready(image, tid, part)? {
                 self.instruction(alloc, image, tid, part)?;
             } else {

@@ -11,6 +11,7 @@ use crate::entries::push_turn;
 use bare_machine::Machine;
 use detector::Detector;
 use elf_image::Image;
+use guest_code::Code;
 use run_record::{Entries, Limits, NoMemory};
 use std::alloc::Global;
 
@@ -46,18 +47,20 @@ impl WatchedMachine {
         })
     }
 
-    /// The thread makes at most so many instructions in that round, up to one that uses an object. The
+    /// The thread makes at most so many instructions in that round, of the image and its decoded instructions, up to one that uses an object. The
     /// entries of the turn are appended. After an error none of them is, and machine and detector are of no
     /// more use.
     pub fn take_turn(
         &mut self,
         alloc: Global,
         image: &Image<'_>,
+        code: &Code<'_>,
         entries: &mut Entries,
         round: u32,
         tid: u32,
         most: u32,
     ) -> Result<TurnEnd, NoMemory>
+        requires code { code.now ≡ image.now }
         requires lives { lives self.old.machine tid ≡ true }
         requires some { 1 ≤ most }
         requires following { IsFollowing image.now round entries.old self.old }
@@ -69,7 +72,7 @@ impl WatchedMachine {
         self.detector.resume(tid);
         let era = self.detector.era();
         let mut part = Part::new(alloc);
-        let starved = self.run_part(alloc, image, tid, most, &mut part)?;
+        let starved = self.run_part(alloc, image, code, tid, most, &mut part)?;
         let steps = part.steps;
         if steps > 0 {
             if part.spent.is_some() {

@@ -30,12 +30,12 @@ found m name = if is_refused m then None else file_named name m.files
 abbrev pub read_once : FilesInMemory → FilesInMemory
 read_once m = record m { reads = next m.reads }
 
--- what a read answers and leaves; where memory runs out it may have been counted or not
+-- what a read answers and leaves: each read is counted, also where memory runs out
 abbrev pub Answers : FilesInMemory → FilesInMemory → List ℕ → ℕ → Result (Vec ℕ Global) FileFault → Type 0
 Answers old new name limit (Ok v) = (found old name ≡ Some v.items) × (new ≡ read_once old)
 Answers old new name limit (Err TooLong) = ((bytes : List ℕ) × (found old name ≡ Some bytes) × (limit < length bytes)) × (new ≡ read_once old)
 Answers old new name limit (Err Failed) = (found old name ≡ None) × (new ≡ record (read_once old) { faults = next old.faults; failed = name })
-Answers old new name limit (Err NoMemory) = (new.files ≡ old.files) × (new.fails ≡ old.fails)
+Answers old new name limit (Err NoMemory) = new ≡ read_once old
 
 -- the bytes that were put, the room for them, the puts that are to fail with how many bytes they take, and what the puts so far left
 pub record SinkInMemory : Type 0 where

@@ -16,7 +16,12 @@ pub struct HostFiles<'a, R: FileSystem> {
 }
 
 impl<'a, R: FileSystem> HostFiles<'a, R> {
-    pub fn new(rt: &'a R, alloc: Global) -> HostFiles<'a, R> {
+    ghost use Rattle.std.specs.Prelude.{◌≡◌, [], string_bytes};
+
+    pub fn new(rt: &'a R, alloc: Global) -> HostFiles<'a, R>
+        ensures faults { result.faults ≡ 0 }
+        ensures failed { string_bytes result.failed ≡ [] }
+    {
         HostFiles {
             rt,
             alloc,
@@ -107,7 +112,11 @@ pub struct HostSink<W> {
 }
 
 impl<W> HostSink<W> {
-    pub fn new(writer: W) -> HostSink<W> {
+    ghost use Rattle.std.specs.Prelude.{◌≡◌};
+
+    pub fn new(writer: W) -> HostSink<W>
+        ensures { result.faults ≡ 0 }
+    {
         HostSink { writer, faults: 0 }
     }
 }

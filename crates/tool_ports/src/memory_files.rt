@@ -16,7 +16,7 @@ struct NamedFile {
     bytes: Vec<u8>,
 }
 
-/// Files in memory. The reads are numbered from 1, and those of a list fail.
+/// Files in memory. The reads are numbered from 1, and those of a list fail. A read that finds no memory has a number, too.
 #[derive(Drop)]
 pub struct MemoryFiles {
     alloc: Global,
@@ -129,10 +129,10 @@ impl Files for MemoryFiles {
         ensures cause { ReadCause name.now self.old.faults self.new.faults self.old.failed self.new.failed result }
         ensures exact { Answers self.old self.new name.now limit result }
     {
+        self.reads = self.reads.saturating_add(1);
         let Ok(copy) = String::from_str(self.alloc, name) else {
             return Err(FileFault::NoMemory);
         };
-        self.reads = self.reads.saturating_add(1);
         let Some(bytes) = self.lookup(name) else {
             self.fail(copy);
             return Err(FileFault::Failed);

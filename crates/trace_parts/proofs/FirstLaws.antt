@@ -14,7 +14,8 @@ use Rattle.trace_parts.specs.declared.restored.Restored.TheVariants.{Found, Lost
 use Rattle.trace_parts.specs.Snapshot.{Snapshot, nothing_yet, snapshot_after, after_all}
 use Rattle.trace_parts.specs.Held.{HeldPart, HeldTrace, events_in, has_label, EndsWithParts}
 use Rattle.trace_parts.specs.Sought.{Seen, seen_from, is_sought, is_under, leaves_word, access_in, told_of, told_if, restored, without_label, start_of, events_of_parts, first_held, first_in, IsFirstOfAll}
-use Rattle.trace_parts.proofs.SeekLaws.{first_told, first_told-cons}
+use Rattle.trace_parts.proofs.SeekLaws.{first_told}
+use Rattle.trace_parts.proofs.UnderLaws.{none_told, under_after_all, same_under}
 use Rattle.trace_parts.proofs.RestoreLaws.{first_told-append, restored-is}
 
 or_comm : (a b : Bool) → (a || b) ≡ (b || a)
@@ -29,41 +30,6 @@ has_label-events l [] = refl
 has_label-events l (part ∷ older) =
     list_any-append (is_label l) (events_of_parts older) part.events ∙ ap (λ (b : Bool). b || list_any (is_label l) part.events) (has_label-events l older)
     ∙ or_comm (list_any (list_any (is_label l)) (map events_in older)) (list_any (is_label l) part.events)
-
--- nothing is told of an event under another label
-told_if-elsewhere : (l : Label) (address word : ℕ) (s : Snapshot) (e : TraceEvent) → is_under l s.label ≡ false → told_if l address word s e ≡ None
-told_if-elsewhere l address word s e h = rw h refl
-
--- without its event no label comes
-under_after : (l : Label) (s : Snapshot) (e : TraceEvent) → is_under l s.label ≡ false → is_label l e ≡ false → is_under l (snapshot_after s e).label ≡ false
-under_after l s (Labelled m) h other = other
-under_after l s (Traced e) h other = h
-
-under_after_all : (l : Label) (s : Snapshot) (es : List TraceEvent) → is_under l s.label ≡ false → list_any (is_label l) es ≡ false → is_under l (after_all s es).label ≡ false
-under_after_all l s [] h none = h
-under_after_all l s (e ∷ es) h none =
-    let parts = or_parts (is_label l e) (list_any (is_label l) es) none in
-    under_after_all l (snapshot_after s e) es (under_after l s e h parts.0) parts.1
-
--- so nothing is found
-none_told : (l : Label) (address word : ℕ) (s : Snapshot) (es : List TraceEvent) → is_under l s.label ≡ false → list_any (is_label l) es ≡ false → first_told l address word s es ≡ None
-none_told l address word s [] h none = refl
-none_told l address word s (e ∷ es) h none =
-    let parts = or_parts (is_label l e) (list_any (is_label l) es) none in
-    first_told-cons l address word s e es ∙ ap (λ (o : Option Restored). option_or o (first_told l address word (snapshot_after s e) es)) (told_if-elsewhere l address word s e h)
-    ∙ none_told l address word (snapshot_after s e) es (under_after l s e h parts.0) parts.1
-
--- what is told of one event, or else of those behind, from another label
-told_next : (l : Label) (address word : ℕ) (s : Snapshot) (e : TraceEvent) (es : List TraceEvent) → is_under l s.label ≡ false → first_told l address word s (e ∷ es) ≡ first_told l address word (snapshot_after s e) es
-told_next l address word s e es h =
-    first_told-cons l address word s e es ∙ ap (λ (o : Option Restored). option_or o (first_told l address word (snapshot_after s e) es)) (told_if-elsewhere l address word s e h)
-
--- another label and none are the same
-told_without_label : (l : Label) (address word : ℕ) (s : Snapshot) (es : List TraceEvent) → is_under l s.label ≡ false → first_told l address word (without_label s) es ≡ first_told l address word s es
-told_without_label l address word s [] h = refl
-told_without_label l address word s (Labelled m ∷ es) h = told_next l address word (without_label s) (Labelled m) es refl ∙ sym (told_next l address word s (Labelled m) es h)
-told_without_label l address word s (Traced e ∷ es) h =
-    told_next l address word (without_label s) (Traced e) es refl ∙ told_without_label l address word (snapshot_after s (Traced e)) es h ∙ sym (told_next l address word s (Traced e) es h)
 
 -- where the label isn't held, nothing is found
 pub lost_where_not_held : (trace : HeldTrace) (l : Label) (address word : ℕ) (found : Restored) → found ≡ restored (first_held trace.held l address word) → has_label trace l ≡ false → found ≡ Lost
@@ -156,7 +122,7 @@ first_of_parts (part ∷ older) l address word events ends label once =
     let some = count-some (is_label l) last (has_label-events l held ∙ label) in
     let none : list_any (is_label l) split.before ≡ false = count-none (is_label l) split.before (omega (arith, once, ap (count_by (is_label l)) split.whole, sum_by-append (λ (e : TraceEvent). cond (is_label l e) 1 0) split.before last, some)) in
     let under : is_under l (start_of held).label ≡ false = subst (λ (s : Snapshot). is_under l s.label ≡ false) (sym split.start) (under_after_all l nothing_yet split.before refl none) in
-    told_without_label l address word (start_of held) last under ∙ ap (λ (s : Snapshot). first_told l address word s last) split.start
+    same_under l address word (without_label (start_of held)) (start_of held) last refl refl (sym under) ∙ ap (λ (s : Snapshot). first_told l address word s last) split.start
     ∙ sym
     (ap (first_told l address word nothing_yet) split.whole ∙ first_told-append l address word nothing_yet split.before last
     ∙ ap (λ (o : Option Restored). option_or o (first_told l address word (after_all nothing_yet split.before) last)) (none_told l address word nothing_yet split.before refl none))

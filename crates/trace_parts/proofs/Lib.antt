@@ -5,6 +5,7 @@ pub mod RingLaws
 pub mod HoldLaws
 pub mod MaskLaws
 pub mod SeekLaws
+pub mod UnderLaws
 pub mod SoughtLaws
 pub mod RestoreLaws
 pub mod FirstLaws

@@ -1,16 +1,17 @@
 -- Words read back: an event's words give that event, and words that give an event are its own.
-use Rattle.std.proofs.Common.{◌≡◌, ℕ, ◌+◌, ◌*◌, ◌/◌, ◌%◌, ◌^◌, ◌<◌, ◌≤◌, ◌==◌, ◌&&◌, ◌||◌, Bool, true, false, if◌then◌else◌, ltb, leb, List, [], ◌∷◌, ◌++◌, length, drop, Option, Some, None, inl, inr, refl, ◌∙◌, ap, arith}
+use Rattle.std.proofs.Common.{◌≡◌, ℕ, zero, suc, ◌+◌, ◌*◌, ◌/◌, ◌%◌, ◌^◌, ◌<◌, ◌≤◌, ◌==◌, ◌&&◌, ◌||◌, Bool, true, false, if◌then◌else◌, ltb, leb, List, [], ◌∷◌, ◌++◌, length, drop, get_or, Option, Some, None, inl, inr, refl, sym, ◌∙◌, ap, arith}
 use Rattle.std.proofs.lemmas.Bool.{eqb-true, ltb-true, leb-true, or_cases, and_parts}
 use Rattle.std.proofs.lemmas.Bool.Decides.{Decides-eqb, nat_tests}
 use Rattle.std.proofs.lemmas.Slice.Eq.{starts_is}
 use Rattle.std.specs.List.{starts_with}
 use Rattle.std.specs.Prelude.{nat_eq}
 use Rattle.std.specs.Option.{option_map}
-use Rattle.run_laws.specs.Window.{distance, is_short}
+use Rattle.run_laws.specs.Window.{distance, is_short, place_after}
 use Rattle.run_laws.specs.Words.{bit}
 use Rattle.trace_parts.specs.declared.event.TraceEvent.{TraceEvent}
 use Rattle.trace_parts.specs.declared.event.TraceEvent.TheVariants.{Access, Enter, Leave, Lock, Unlock, Label}
-use Rattle.trace_parts.specs.Spelling.{IsTraceable, is_traceable, power_of, short_word, long_word, lock_word, label_word, spelling, bits, flag, place_from, short_in, long_in, label_in, fields_in, fields_at, if_spelled, event_at, decoded, IsSpelledAt}
+use Rattle.trace_parts.specs.Sought.{access_in}
+use Rattle.trace_parts.specs.Spelling.{told, IsTraceable, is_traceable, power_of, short_word, long_word, lock_word, label_word, spelling, bits, flag, place_from, short_in, long_in, label_in, fields_in, fields_at, kind_of, words_of_kind, if_spelled, event_at, decoded, IsSpelledAt}
 
 -- a word of fields side by side: kind, two flags, power, distance, address
 short_fields :
@@ -163,7 +164,7 @@ access_back p place addr size read atomic rest false h hp hq hs =
     kind_2 p (long_word size read atomic) (place ∷ addr ∷ rest) f.0 ∙ long_back size place addr read atomic rest hs
 
 -- an event's words have its fields
-fields_back : (p : ℕ) (e : TraceEvent) (rest : List ℕ) → p < 2 ^ 64 → is_traceable e ≡ true → fields_at p (spelling p e ++ rest) ≡ Some e
+pub fields_back : (p : ℕ) (e : TraceEvent) (rest : List ℕ) → p < 2 ^ 64 → is_traceable e ≡ true → fields_at p (spelling p e ++ rest) ≡ Some e
 unfolding spelling
 fields_back p (Access place addr size read atomic) rest hp h =
     let t = and_parts (leb size 65536) (ltb place (2 ^ 64)) h in
@@ -254,3 +255,89 @@ event_at-traceable p words e h = by_fields (fields_at p words) h
     by_fields : (o : Option TraceEvent) → if_spelled p words o ≡ Some e → is_traceable e ≡ true
     by_fields None g = cc
     by_fields (Some d) g = by_test d (is_traceable d) refl g
+
+-- how many words an event takes is told by the kind in its first one
+pub length-by_kind : (p : ℕ) (e : TraceEvent) (rest : List ℕ) → is_traceable e ≡ true → length (spelling p e) ≡ words_of_kind (kind_of (spelling p e ++ rest))
+unfolding spelling
+length-by_kind p (Access place addr size read atomic) rest h = short_or_long (is_short p place addr size) refl
+  where
+    short_or_long :
+        (short : Bool) → is_short p place addr size ≡ short →
+        length (if short then short_word p place addr size read atomic ∷ [] else long_word size read atomic ∷ place ∷ addr ∷ []) ≡ words_of_kind (kind_of ((if short then short_word p place addr size read atomic ∷ [] else long_word size read atomic ∷ place ∷ addr ∷ []) ++ rest))
+    short_or_long true is = sym (ap words_of_kind (short_kind p place addr size read atomic is))
+    short_or_long false is = sym (ap words_of_kind (long_fields (bit read) (bit atomic) size (bit_small read) (bit_small atomic) (leb-true size 65536 (and_parts (leb size 65536) (ltb place (2 ^ 64)) h).0)).0)
+length-by_kind p (Enter pc) rest h = refl
+length-by_kind p Leave rest h = refl
+length-by_kind p (Lock addr read) rest h = sym (ap words_of_kind (lock_fields 5 (bit read) (omega arith) (bit_small read)).0)
+length-by_kind p (Unlock addr read) rest h = sym (ap words_of_kind (lock_fields 6 (bit read) (omega arith) (bit_small read)).0)
+length-by_kind p (Label sid epoch era) rest h =
+    let t = and_parts (ltb sid (2 ^ 8)) (leb epoch 16383) h in
+    sym (ap words_of_kind (label_fields sid epoch era (ltb-true sid (2 ^ 8) t.0) (leb-true epoch 16383 t.1)).0)
+
+kind_0 : (p w : ℕ) (rest : List ℕ) → bits w 0 3 ≡ 0 → fields_in p w rest ≡ None
+unfolding fields_in
+kind_0 p w rest h = rw h refl
+
+same_some : (d e : TraceEvent) → Some d ≡ Some e → e ≡ d
+same_some d e h = cc
+
+no_some : (e : TraceEvent) → None ≡ Some e → ⊥
+no_some e h = cc
+
+-- the event in the fields, by the kind
+pub short-by_kind : (p : ℕ) (words : List ℕ) (e : TraceEvent) → kind_of words ≤ 2 → (kind_of words ≡ 2 → ⊥) → fields_at p words ≡ Some e → e ≡ short_in p (get_or words 0 0)
+short-by_kind p [] e few other h = absurd (no_some e h)
+short-by_kind p (w ∷ ws) e few other h = by_kind (bits w 0 3) refl few other
+  where
+    by_kind : (kind : ℕ) → bits w 0 3 ≡ kind → kind ≤ 2 → (kind ≡ 2 → ⊥) → e ≡ short_in p w
+    by_kind zero k few other = absurd (no_some e (sym (kind_0 p w ws k) ∙ h))
+    by_kind (suc zero) k few other = same_some (short_in p w) e (sym (kind_1 p w ws k) ∙ h)
+    by_kind (suc (suc zero)) k few other = absurd (other refl)
+    by_kind (suc (suc (suc n))) k few other = absurd (omega arith)
+
+pub long-by_kind : (p : ℕ) (words : List ℕ) (e : TraceEvent) → kind_of words ≡ 2 → fields_at p words ≡ Some e → e ≡ Access (get_or words 1 0) (get_or words 2 0) (bits (get_or words 0 0) 8 17) (flag (get_or words 0 0) 3) (flag (get_or words 0 0) 4)
+long-by_kind p [] e k h = absurd (no_some e h)
+long-by_kind p (w ∷ []) e k h = absurd (no_some e (sym (kind_2 p w [] k) ∙ h))
+long-by_kind p (w ∷ (x ∷ [])) e k h = absurd (no_some e (sym (kind_2 p w (x ∷ []) k) ∙ h))
+long-by_kind p (w ∷ (x ∷ (y ∷ ws))) e k h = same_some (Access x y (bits w 8 17) (flag w 3) (flag w 4)) e (sym (kind_2 p w (x ∷ (y ∷ ws)) k) ∙ h)
+
+pub enter-by_kind : (p : ℕ) (words : List ℕ) (e : TraceEvent) → 1 < length words → kind_of words ≡ 3 → fields_at p words ≡ Some e → e ≡ Enter (get_or words 1 0)
+enter-by_kind p [] e some k h = absurd (omega arith)
+enter-by_kind p (w ∷ []) e some k h = absurd (omega arith)
+enter-by_kind p (w ∷ (x ∷ ws)) e some k h = same_some (Enter x) e (sym (kind_3 p w x ws k) ∙ h)
+
+pub leave-by_kind : (p : ℕ) (words : List ℕ) (e : TraceEvent) → kind_of words ≡ 4 → fields_at p words ≡ Some e → e ≡ Leave
+leave-by_kind p [] e k h = absurd (no_some e h)
+leave-by_kind p (w ∷ ws) e k h = same_some Leave e (sym (kind_4 p w ws k) ∙ h)
+
+pub lock-by_kind : (p : ℕ) (words : List ℕ) (e : TraceEvent) → 1 < length words → kind_of words ≡ 5 → fields_at p words ≡ Some e → e ≡ Lock (get_or words 1 0) (flag (get_or words 0 0) 3)
+lock-by_kind p [] e some k h = absurd (omega arith)
+lock-by_kind p (w ∷ []) e some k h = absurd (omega arith)
+lock-by_kind p (w ∷ (x ∷ ws)) e some k h = same_some (Lock x (flag w 3)) e (sym (kind_5 p w x ws k) ∙ h)
+
+pub unlock-by_kind : (p : ℕ) (words : List ℕ) (e : TraceEvent) → 1 < length words → kind_of words ≡ 6 → fields_at p words ≡ Some e → e ≡ Unlock (get_or words 1 0) (flag (get_or words 0 0) 3)
+unlock-by_kind p [] e some k h = absurd (omega arith)
+unlock-by_kind p (w ∷ []) e some k h = absurd (omega arith)
+unlock-by_kind p (w ∷ (x ∷ ws)) e some k h = same_some (Unlock x (flag w 3)) e (sym (kind_6 p w x ws k) ∙ h)
+
+pub label-by_kind : (p : ℕ) (words : List ℕ) (e : TraceEvent) → kind_of words ≡ 7 → fields_at p words ≡ Some e → e ≡ label_in (get_or words 0 0)
+label-by_kind p [] e k h = absurd (no_some e h)
+label-by_kind p (w ∷ ws) e k h = same_some (label_in w) e (sym (kind_7 p w ws k) ∙ h)
+
+pub second_word : (words : List ℕ) (kind : ℕ) → kind_of words ≡ kind → words_of_kind kind ≡ 2 → words_of_kind (kind_of words) ≤ length words → 1 < length words
+second_word words kind k two whole = omega (arith, ap words_of_kind k)
+
+-- only an access has a kind below 3
+pub no_access-by_kind : (p : ℕ) (e : TraceEvent) (rest : List ℕ) → is_traceable e ≡ true → 2 < kind_of (spelling p e ++ rest) → (access_in (told e) ≡ None) × (place_after p (told e) ≡ p)
+unfolding spelling
+no_access-by_kind p (Access place addr size read atomic) rest h k = absurd (short_or_long (is_short p place addr size) refl k)
+  where
+    short_or_long :
+        (short : Bool) → is_short p place addr size ≡ short → 2 < kind_of ((if short then short_word p place addr size read atomic ∷ [] else long_word size read atomic ∷ place ∷ addr ∷ []) ++ rest) → ⊥
+    short_or_long true is k = omega (arith, short_kind p place addr size read atomic is)
+    short_or_long false is k = omega (arith, (long_fields (bit read) (bit atomic) size (bit_small read) (bit_small atomic) (leb-true size 65536 (and_parts (leb size 65536) (ltb place (2 ^ 64)) h).0)).0)
+no_access-by_kind p (Enter pc) rest h k = (refl, refl)
+no_access-by_kind p Leave rest h k = (refl, refl)
+no_access-by_kind p (Lock addr read) rest h k = (refl, refl)
+no_access-by_kind p (Unlock addr read) rest h k = (refl, refl)
+no_access-by_kind p (Label sid epoch era) rest h k = (refl, refl)

@@ -10,12 +10,13 @@ use Rattle.trace_parts.specs.declared.ring.Ring.{Ring}
 use Rattle.trace_parts.specs.declared.restored.Restored.{Restored}
 use Rattle.trace_parts.specs.declared.restored.Restored.TheVariants.{Lost}
 use Rattle.trace_parts.specs.Spelling.{told}
-use Rattle.trace_parts.specs.Snapshot.{Snapshot, snapshot_after, after_all}
+use Rattle.trace_parts.specs.Snapshot.{Snapshot, snapshot_after, after_all, with_label}
 use Rattle.trace_parts.specs.Held.{HeldPart}
-use Rattle.trace_parts.specs.Part.{snapshot_of, told_from, held_part, held_parts, held_in, IsPart, ArePartsOf, BeginsEmpty, oldest_of}
-use Rattle.trace_parts.specs.Sought.{Seen, told_of, told_if, restored, without_label, start_of, events_of_parts, first_held}
+use Rattle.trace_parts.specs.Part.{snapshot_of, told_from, held_part, held_parts, held_in, IsPart, ArePartsOf, LeadTo, BeginsEmpty, oldest_of}
+use Rattle.trace_parts.specs.Sought.{Seen, is_under, told_of, told_if, restored, without_label, start_of, events_of_parts, first_held}
 use Rattle.trace_parts.proofs.WordLaws.{events_from-nil}
 use Rattle.trace_parts.proofs.SeekLaws.{first_told, first_told-cons}
+use Rattle.trace_parts.proofs.UnderLaws.{same_under, same_frames, same_locks}
 
 option_or-assoc : {T : Type 0} → (a b c : Option T) → option_or a (option_or b c) ≡ option_or (option_or a b) c
 option_or-assoc None b c = refl
@@ -66,52 +67,90 @@ ArePartsOf-at size n [] part are l h = absurd (omega arith)
 ArePartsOf-at size zero (x ∷ older) part are l h = subst (IsPart size) (sym h) are.0
 ArePartsOf-at size (suc n) (x ∷ older) part are l h = ArePartsOf-at size n older part are.1 (omega arith) h
 
-pub oldest_of-last : (current : Part) (older : List Part) (part : Part) → 0 < length older → part ≡ get_or older (length older - 1) part → part ≡ oldest_of current older
-oldest_of-last current [] part l h = absurd (omega arith)
-oldest_of-last current (x ∷ []) part l h = h
-oldest_of-last current (x ∷ (y ∷ older)) part l h =
-    let less : suc (suc (length older)) - 1 ≡ suc (length older) = omega arith in
-    let less_too : suc (length older) - 1 ≡ length older = omega arith in
-    let at : part ≡ get_or (y ∷ older) (length older) part = rw less at h in
-    oldest_of-last x (y ∷ older) part (omega arith) (rw less_too at)
+-- the newest part but n: the current one, and then the older ones
+abbrev pub part_left : ℕ → List Part → Part → Part
+part_left zero older current = current
+part_left (suc n) [] current = current
+part_left (suc n) (part ∷ older) current = part_left n older part
+
+part_left-oldest : (older : List Part) (current : Part) → part_left (length older) older current ≡ oldest_of current older
+part_left-oldest [] current = refl
+part_left-oldest (part ∷ older) current = part_left-oldest older part
+
+part_left-at : (n : ℕ) (older : List Part) (current part : Part) → n < length older → part ≡ get_or older n part → part ≡ part_left (suc n) older current
+part_left-at n [] current part l h = absurd (omega arith)
+part_left-at zero (x ∷ older) current part l h = h
+part_left-at (suc n) (x ∷ older) current part l h = part_left-at n older x part (omega arith) h
+
+-- the part before the newest but n leaves what stands before that one
+leads_to : (n : ℕ) (older : List Part) (current part : Part) → LeadTo (snapshot_of current.before) older → n < length older → part ≡ get_or older n part → snapshot_of (part_left n older current).before ≡ after_all (snapshot_of part.before) (told_from part.words.items)
+leads_to n [] current part lead l h = absurd (omega arith)
+leads_to zero (x ∷ older) current part lead l h = lead.0 ∙ ap (λ (p : Part). after_all (snapshot_of p.before) (told_from p.words.items)) (sym h)
+leads_to (suc n) (x ∷ older) current part lead l h = leads_to n older x part lead.1 (omega arith) h
+
+-- what stands before the newest part but n, under another label
+abbrev pub start_at : Option Label → ℕ → Ring → Snapshot
+start_at label n ring = with_label label (snapshot_of (part_left n ring.older.items ring.current).before)
+
+-- what is told of that part and those behind it
+abbrev pub told_left : Label → ℕ → ℕ → Option Label → ℕ → Ring → Option Restored
+told_left l address word label n ring = first_told l address word (start_at label n ring) (events_left n ring.older.items ring.current)
 
 -- at the beginning all is left
-pub parts_first : (l : Label) (address word n : ℕ) (ring : Ring) (now : Snapshot) → now ≡ start_in ring → n ≡ length ring.older.items → first_told l address word now (events_left n ring.older.items ring.current) ≡ told_in l address word ring
-parts_first l address word n ring now start all = ap (λ (s : Snapshot). first_told l address word s (events_left n ring.older.items ring.current)) start ∙ ap (λ (m : ℕ). first_told l address word (start_in ring) (events_left m ring.older.items ring.current)) all
+pub parts_first : (l : Label) (address word n : ℕ) (ring : Ring) (label : Option Label) → label ≡ None → n ≡ length ring.older.items → told_left l address word label n ring ≡ told_in l address word ring
+parts_first l address word n ring label none all =
+    ap (λ (m : ℕ). told_left l address word label m ring) all ∙ ap (λ (o : Option Label). told_left l address word o (length ring.older.items) ring) none
+    ∙ ap (λ (part : Part). first_told l address word (without_label (snapshot_of part.before)) (events_left (length ring.older.items) ring.older.items ring.current)) (part_left-oldest ring.older.items ring.current)
+
+-- the events of a part come before those that are left behind it
+left_from : (l : Label) (address word n : ℕ) (ring : Ring) (label : Option Label) (part : Part) → n < length ring.older.items → part ≡ get_or ring.older.items n part →
+    let s = with_label label (snapshot_of part.before) in
+    let xs = told_from part.words.items in
+    told_left l address word label (suc n) ring ≡ option_or (first_told l address word s xs) (first_told l address word (after_all s xs) (events_left n ring.older.items ring.current))
+left_from l address word n ring label part below at =
+    let s = with_label label (snapshot_of part.before) in
+    let xs = told_from part.words.items in
+    let older = ring.older.items in
+    ap (λ (p : Part). first_told l address word (with_label label (snapshot_of p.before)) (events_left (suc n) older ring.current)) (sym (part_left-at n older ring.current part below at))
+    ∙ ap (first_told l address word s) (events_left-suc n older ring.current part below at) ∙ first_told-append l address word s xs (events_left n older ring.current)
 
 -- a part has it
 pub parts_found :
-    (l : Label) (address word n : ℕ) (ring : Ring) (now : Snapshot) (part : Part) (found : Restored) → 0 < n → n ≤ length ring.older.items → part ≡ get_or ring.older.items (n - 1) part →
-    first_told l address word now (events_left n ring.older.items ring.current) ≡ told_in l address word ring → Some found ≡ first_told l address word now (told_from part.words.items) → Some found ≡ told_in l address word ring
-parts_found l address word zero ring now part found some within at left it = absurd (omega arith)
-parts_found l address word (suc n) ring now part found some within at left it =
-    let older = ring.older.items in
-    let xs = told_from part.words.items in
+    (l : Label) (address word n : ℕ) (ring : Ring) (label : Option Label) (part : Part) (found : Restored) → 0 < n → n ≤ length ring.older.items → part ≡ get_or ring.older.items (n - 1) part → told_left l address word label n ring ≡ told_in l address word ring →
+    Some found ≡ first_told l address word (with_label label (snapshot_of part.before)) (told_from part.words.items) → Some found ≡ told_in l address word ring
+parts_found l address word zero ring label part found some within at left it = absurd (omega arith)
+parts_found l address word (suc n) ring label part found some within at left it =
+    let s = with_label label (snapshot_of part.before) in
     let less : suc n - 1 ≡ n = omega arith in
-    let here : part ≡ get_or older n part = rw less at at in
-    ap (λ (o : Option Restored). option_or o (first_told l address word (after_all now xs) (events_left n older ring.current))) it
-    ∙ sym (ap (first_told l address word now) (events_left-suc n older ring.current part (omega arith) here) ∙ first_told-append l address word now xs (events_left n older ring.current)) ∙ left
+    let here : part ≡ get_or ring.older.items n part = rw less at at in
+    ap (λ (o : Option Restored). option_or o (first_told l address word (after_all s (told_from part.words.items)) (events_left n ring.older.items ring.current))) it
+    ∙ sym (left_from l address word n ring label part (omega arith) here) ∙ left
 
 -- a part doesn't have it
 pub parts_on :
-    (l : Label) (address word n : ℕ) (ring : Ring) (now next : Snapshot) (part : Part) → 0 < n → n ≤ length ring.older.items → part ≡ get_or ring.older.items (n - 1) part →
-    first_told l address word now (events_left n ring.older.items ring.current) ≡ told_in l address word ring → None ≡ first_told l address word now (told_from part.words.items) → next ≡ after_all now (told_from part.words.items) →
-    first_told l address word next (events_left (n - 1) ring.older.items ring.current) ≡ told_in l address word ring
-parts_on l address word zero ring now next part some within at left other passed = absurd (omega arith)
-parts_on l address word (suc n) ring now next part some within at left other passed =
+    (l : Label) (address word n : ℕ) (ring : Ring) (label next : Option Label) (part : Part) → LeadTo (snapshot_of ring.current.before) ring.older.items → 0 < n → n ≤ length ring.older.items → part ≡ get_or ring.older.items (n - 1) part →
+    told_left l address word label n ring ≡ told_in l address word ring → None ≡ first_told l address word (with_label label (snapshot_of part.before)) (told_from part.words.items) →
+    is_under l next ≡ is_under l (after_all (with_label label (snapshot_of part.before)) (told_from part.words.items)).label → told_left l address word next (n - 1) ring ≡ told_in l address word ring
+parts_on l address word zero ring label next part lead some within at left other under = absurd (omega arith)
+parts_on l address word (suc n) ring label next part lead some within at left other under =
     let older = ring.older.items in
+    let rest = events_left n older ring.current in
+    let s = with_label label (snapshot_of part.before) in
     let xs = told_from part.words.items in
     let less : suc n - 1 ≡ n = omega arith in
     let here : part ≡ get_or older n part = rw less at at in
+    let before = leads_to n older ring.current part lead (omega arith) here in
+    let frames : (start_at next n ring).frames ≡ (after_all s xs).frames = ap (λ (t : Snapshot). t.frames) before ∙ same_frames (snapshot_of part.before) s xs refl in
+    let locks : (start_at next n ring).locks ≡ (after_all s xs).locks = ap (λ (t : Snapshot). t.locks) before ∙ same_locks (snapshot_of part.before) s xs refl in
     rw less
-    (ap (λ (s : Snapshot). first_told l address word s (events_left n older ring.current)) passed
-    ∙ ap (λ (o : Option Restored). option_or o (first_told l address word (after_all now xs) (events_left n older ring.current))) other
-    ∙ sym (ap (first_told l address word now) (events_left-suc n older ring.current part (omega arith) here) ∙ first_told-append l address word now xs (events_left n older ring.current)) ∙ left)
+    (same_under l address word (start_at next n ring) (after_all s xs) rest frames locks under ∙ ap (λ (o : Option Restored). option_or o (first_told l address word (after_all s xs) rest)) other
+    ∙ sym (left_from l address word n ring label part (omega arith) here) ∙ left)
 
 -- the current part has it, or nothing does
-pub parts_last : (l : Label) (address word n : ℕ) (ring : Ring) (now : Snapshot) (found : Option Restored) → n ≤ 0 → first_told l address word now (events_left n ring.older.items ring.current) ≡ told_in l address word ring → found ≡ first_told l address word now (told_from ring.current.words.items) → found ≡ told_in l address word ring
-parts_last l address word zero ring now found none left it = it ∙ left
-parts_last l address word (suc n) ring now found none left it = absurd (omega arith)
+pub parts_last : (l : Label) (address word n : ℕ) (ring : Ring) (label : Option Label) (found : Option Restored) → n ≤ 0 → told_left l address word label n ring ≡ told_in l address word ring →
+    found ≡ first_told l address word (with_label label (snapshot_of ring.current.before)) (told_from ring.current.words.items) → found ≡ told_in l address word ring
+parts_last l address word zero ring label found none left it = it ∙ left
+parts_last l address word (suc n) ring label found none left it = absurd (omega arith)
 
 start_of-held : (current : Part) (older : List Part) → start_of (held_part current ∷ map held_part older) ≡ snapshot_of (oldest_of current older).before
 start_of-held current [] = refl

@@ -1,15 +1,19 @@
 -- A ring goes on being one, and holds one event more.
-use Rattle.std.proofs.Common.{◌≡◌, ℕ, zero, suc, ◌+◌, ◌-◌, ◌<◌, ◌≤◌, true, List, [], ◌∷◌, ◌++◌, length, take, map, vec_len, vec_capacity, refl, sym, ◌∙◌, ap, subst, length-append, arith}
+use Rattle.std.proofs.Common.{◌≡◌, ℕ, zero, suc, ◌+◌, ◌-◌, ◌<◌, ◌≤◌, ◌||◌, Bool, true, false, List, [], ◌∷◌, ◌++◌, length, take, map, vec_len, vec_capacity, refl, sym, ◌∙◌, ap, subst, length-append, arith}
 use Rattle.std.specs.VecDeque.{deque_len, deque_capacity}
 use Rattle.std.specs.declared.collections.VecDeque.{VecDeque}
 use Rattle.std.specs.declared.alloc.Global.{Global}
 use Rattle.std.specs.Prelude.{Result, Ok, Err, IsOk, OnOk}
-use Rattle.std.proofs.lemmas.Bool.{false≢true, le-leb, lt-leb}
+use Rattle.std.specs.List.{list_any}
+use Rattle.std.proofs.lemmas.Bool.{false≢true, or_from, le-leb, lt-leb}
+use Rattle.std.proofs.lemmas.List.Folds.{list_any-append}
 use Rattle.std.proofs.lemmas.List.{map-append, take-map, take_all, length-take, length-map}
 use Rattle.std.proofs.Math.Numerals.{sub-one}
 use Rattle.std.proofs.lemmas.List.Sums.{fold-append}
+use Rattle.run_record.specs.declared.entry.Label.{Label}
 use Rattle.run_laws.specs.Window as window
-use Rattle.run_laws.specs.Window.{words_of, words_in}
+use Rattle.run_laws.specs.Window.{words_of, words_in, is_label}
+use Rattle.trace_parts.specs.LabelRange.{is_in_range}
 use Rattle.trace_parts.specs.declared.event.TraceEvent.{TraceEvent}
 use Rattle.trace_parts.specs.declared.standing.Standing.{Standing}
 use Rattle.trace_parts.specs.declared.ring.Part.{Part}
@@ -17,14 +21,14 @@ use Rattle.trace_parts.specs.declared.ring.Ring.{Ring}
 use Rattle.trace_parts.specs.Spelling.{is_traceable, spelling, told}
 use Rattle.trace_parts.specs.Snapshot.{Snapshot, nothing_yet, snapshot_after, after_all}
 use Rattle.trace_parts.specs.Held.{HeldPart, after_part, standing_of, with_pushed}
-use Rattle.trace_parts.specs.Part.{place_then, last_place, spelled, events_from, IsSpelled, snapshot_of, HasRoom, told_from, held_part, held_parts, held_in, IsPart, ArePartsOf, NextIsReady, IsRing, BeginsEmpty, Begins, Appends}
+use Rattle.trace_parts.specs.Part.{place_then, last_place, spelled, events_from, IsSpelled, snapshot_of, HasRoom, told_from, held_part, held_parts, held_in, IsRangeOf, IsPart, ArePartsOf, LeadTo, NextIsReady, IsRing, BeginsEmpty, Begins, Appends}
 use Rattle.trace_parts.proofs.WordLaws.{length-spelling, words_of-bounds, spelled-push, length-spelled, events_from-push, IsSpelled-push, IsSpelled-nil, events_from-nil}
 
 -- a ring whose current part is empty
 pub empty_ring :
-    (ring : Ring) → 64 ≤ ring.part_words → 2 ≤ ring.parts → ring.spare ≤ 4 → ring.current.words.items ≡ [] → ring.part_words ≤ vec_capacity ring.current.words → ArePartsOf ring.part_words ring.older.items → deque_len ring.older < ring.parts →
+    (ring : Ring) → 64 ≤ ring.part_words → 2 ≤ ring.parts → ring.spare ≤ 4 → ring.current.words.items ≡ [] → ring.part_words ≤ vec_capacity ring.current.words → ArePartsOf ring.part_words ring.older.items → LeadTo (snapshot_of ring.current.before) ring.older.items → deque_len ring.older < ring.parts →
     ring.parts ≤ deque_capacity ring.older + 1 → ring.previous ≡ 0 → snapshot_of ring.standing ≡ snapshot_of ring.current.before → HasRoom ring.spare ring.standing → IsRing ring
-empty_ring ring least_words least_parts few_spare empty room older few older_room previous now now_room =
+empty_ring ring least_words least_parts few_spare empty room older in_order few older_room previous now now_room =
     let before = snapshot_of ring.current.before in
     let none : vec_len ring.current.words ≡ 0 = ring.current.words.ok.0 ∙ ap length empty in
     let no_events : events_from 0 ring.current.words.items ≡ [] = ap (events_from 0) empty ∙ events_from-nil 0 in
@@ -34,10 +38,12 @@ empty_ring ring least_words least_parts few_spare empty room older few older_roo
       few_spare = few_spare;
       current = record {
         is_spelled = subst (IsSpelled 0) (sym empty) (IsSpelled-nil 0);
+        labels = λ l _. ap (λ (es : List TraceEvent). list_any (is_label l) (map told es)) no_events;
         room = room;
       };
       within = omega arith;
       older = older;
+      in_order = in_order;
       few = few;
       older_room = older_room;
       previous = previous ∙ sym (ap (last_place 0) no_events);
@@ -62,6 +68,20 @@ still_ready e written old new appends ready =
       words = λ h. omega (arith, appends.part_words, appends.parts, ready.words (omega (arith, appends.parts)));
     }
 
+out_of_range : (wide narrow : Bool) → (narrow ≡ true → wide ≡ true) → wide ≡ false → narrow ≡ false
+out_of_range wide true h out = absurd (false≢true (sym out ∙ h refl))
+out_of_range wide false h out = refl
+
+-- the range of a part with one event more
+range_on :
+    (e : TraceEvent) (old new : Part) → IsRangeOf old.labels (told_from old.words.items) → ((l : Label) → is_label l (told e) ≡ true → is_in_range new.labels l ≡ true) → ((l : Label) → is_in_range old.labels l ≡ true → is_in_range new.labels l ≡ true) →
+    told_from new.words.items ≡ told_from old.words.items ++ told e ∷ [] → IsRangeOf new.labels (told_from new.words.items)
+range_on e old new range included labels read =
+    λ l out.
+    ap (list_any (is_label l)) read ∙ list_any-append (is_label l) (told_from old.words.items) (told e ∷ [])
+    ∙ or_from (list_any (is_label l) (told_from old.words.items)) (is_label l (told e) || false) (range l (out_of_range (is_in_range new.labels l) (is_in_range old.labels l) (labels l) out))
+    (or_from (is_label l (told e)) false (out_of_range (is_in_range new.labels l) (is_label l (told e)) (included l) out) refl)
+
 -- the ring after an event whose words fit
 pub appended_ring :
     (e : TraceEvent) (old new : Ring) → IsRing old → Appends e (spelling old.previous e) old new → is_traceable e ≡ true → vec_len old.current.words + length (spelling old.previous e) ≤ old.part_words → IsRing new
@@ -78,10 +98,12 @@ appended_ring e old new ring appends traceable fits =
       few_spare = omega (arith, appends.spare, ring.few_spare);
       current = record {
         is_spelled = subst (IsSpelled 0) (sym words) (IsSpelled-push 0 old.current.words.items e (omega arith) ring.current.is_spelled traceable);
+        labels = range_on e old.current new.current ring.current.labels appends.included appends.labels read_told;
         room = omega (arith, appends.part_words, appends.room, ring.current.room);
       };
       within = omega (arith, appends.part_words);
       older = subst (λ (n : ℕ). ArePartsOf n new.older.items) (sym appends.part_words) (subst (λ (older : VecDeque Part Global). ArePartsOf old.part_words older.items) (sym appends.older) ring.older);
+      in_order = subst (λ (before : Standing). LeadTo (snapshot_of before) new.older.items) (sym appends.before) (subst (λ (older : VecDeque Part Global). LeadTo (snapshot_of old.current.before) older.items) (sym appends.older) ring.in_order);
       few = omega (arith, appends.parts, ap (λ (q : VecDeque Part Global). deque_len q) appends.older, ring.few);
       older_room = omega (arith, appends.parts, ap (λ (q : VecDeque Part Global). deque_capacity q) appends.older, ring.older_room);
       previous = appends.previous ∙ ap (λ (q : ℕ). place_then q e) ring.previous ∙ sym (fold-append place_then 0 (events_from 0 old.current.words.items) (e ∷ [])) ∙ sym (ap (last_place 0) read);
@@ -159,6 +181,11 @@ ArePartsOf-take size zero parts h = tt
 ArePartsOf-take size (suc n) [] h = tt
 ArePartsOf-take size (suc n) (part ∷ parts) h = (h.0, ArePartsOf-take size n parts h.1)
 
+LeadTo-take : (next : Snapshot) (n : ℕ) (parts : List Part) → LeadTo next parts → LeadTo next (take n parts)
+LeadTo-take next zero parts h = tt
+LeadTo-take next (suc n) [] h = tt
+LeadTo-take next (suc n) (part ∷ parts) h = (h.0, LeadTo-take (snapshot_of part.before) n parts h.1)
+
 -- the ring whose next part has begun
 pub begun_ring : (old new : Ring) → IsRing old → Begins old new → IsRing new
 begun_ring old new ring begins =
@@ -169,6 +196,7 @@ begun_ring old new ring begins =
     begins.words
     (omega (arith, begins.part_words, begins.room))
     (subst (λ (n : ℕ). ArePartsOf n new.older.items) (sym begins.part_words) (subst (ArePartsOf old.part_words) (sym begins.older) (ArePartsOf-take old.part_words (old.parts - 1) (old.current ∷ old.older.items) (ring.current, ring.older))))
+    (subst (λ (next : Snapshot). LeadTo next new.older.items) (sym begins.before) (subst (LeadTo (snapshot_of old.standing)) (sym begins.older) (LeadTo-take (snapshot_of old.standing) (old.parts - 1) (old.current ∷ old.older.items) (ring.now, ring.in_order))))
     (omega (arith, begins.parts, ring.least_parts, new.older.ok.0, ap length begins.older, length-take (old.parts - 1) (old.current ∷ old.older.items)))
     (omega (arith, begins.parts, begins.older_room, ring.older_room))
     begins.previous

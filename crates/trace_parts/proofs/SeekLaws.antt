@@ -1,19 +1,20 @@
 -- A walk through the events of words.
-use Rattle.std.proofs.Common.{◌≡◌, ℕ, ◌+◌, ◌^◌, ◌<◌, ◌≤◌, Bool, true, false, if◌then◌else◌, List, [], ◌∷◌, ◌++◌, length, drop, map, Option, Some, None, refl, sym, ◌∙◌, ap, subst, length-append, arith}
+use Rattle.std.proofs.Common.{◌≡◌, ℕ, ◌+◌, ◌^◌, ◌<◌, ◌≤◌, ◌==◌, Bool, true, false, if◌then◌else◌, List, [], ◌∷◌, ◌++◌, length, drop, map, Option, Some, None, refl, sym, ◌∙◌, ap, subst, length-append, arith}
 use Rattle.std.specs.Prelude.{find}
 use Rattle.std.specs.Option.{option_map, option_or, option_map_or}
 use Rattle.std.specs.List.{list_all}
-use Rattle.std.proofs.lemmas.Bool.{and_parts}
+use Rattle.std.proofs.lemmas.Bool.{false≢true, eqb-true, and_parts, and_right}
 use Rattle.std.proofs.Math.Seq.{drop-append_seam}
 use Rattle.run_record.specs.declared.entry.Label.{Label}
 use Rattle.run_laws.specs.Window as window
 use Rattle.trace_parts.specs.declared.event.TraceEvent.{TraceEvent}
-use Rattle.trace_parts.specs.Spelling.{is_traceable, spelling, told, IsSpelledAt}
+use Rattle.trace_parts.specs.Spelling.{is_traceable, spelling, told, kind_of, words_of_kind, fields_at}
 use Rattle.trace_parts.specs.Snapshot.{Snapshot, snapshot_after, after_all}
 use Rattle.trace_parts.specs.Part.{place_then, spelled, events_from, IsSpelled, told_from}
 use Rattle.trace_parts.specs.declared.restored.Restored.{Restored}
-use Rattle.trace_parts.specs.Sought.{Seen, seen_from, is_sought, told_of, told_if}
-use Rattle.trace_parts.proofs.WordLaws.{AllTraceable, length-spelling, words_of-bounds, place_then-fits, spelled-cons, spelled-nil, events_from-spelled, first_events-traceable}
+use Rattle.trace_parts.specs.Sought.{Seen, seen_from, is_sought, is_under, access_in, told_of, told_if}
+use Rattle.trace_parts.proofs.ReadBack.{fields_back, length-by_kind, no_access-by_kind}
+use Rattle.trace_parts.proofs.WordLaws.{AllTraceable, length-spelling, words_of-bounds, place_then-fits, spelled-cons, spelled-nil, events_from-nil, events_from-spelled, first_events-traceable}
 
 -- what is told of the first sought access, and what stands in the end
 abbrev pub first_told : Label → ℕ → ℕ → Snapshot → List window.TraceEvent → Option Restored
@@ -26,10 +27,6 @@ pub record SeeksOn (l : Label) (address word previous : ℕ) (rest : List ℕ) (
   pub is_spelled : IsSpelled previous rest
   pub same_found : first_told l address word now (map told (events_from previous rest)) ≡ first_told l address word start (told_from words)
   pub same_end : after_all now (map told (events_from previous rest)) ≡ after_all start (told_from words)
-
--- every event whose words these begin with is what was read
-abbrev pub Reading : ℕ → List ℕ → Option (TraceEvent × ℕ) → Type 0
-Reading p words read = (e : TraceEvent) (rest : List ℕ) → is_traceable e ≡ true → words ≡ spelling p e ++ rest → read ≡ Some (e, length (spelling p e))
 
 -- The first of the spelled events, and how many words it takes.
 pub record Reads (p : ℕ) (words : List ℕ) (e : TraceEvent) (n : ℕ) : Type 0 where
@@ -65,23 +62,28 @@ reads_first p words e es hp h eq =
 no_events : (p : ℕ) (words : List ℕ) → IsSpelled p words → events_from p words ≡ [] → words ≡ []
 no_events p words h eq = sym h ∙ ap (spelled p) eq ∙ spelled-nil p
 
-pub read_some : (p n : ℕ) (words : List ℕ) (e : TraceEvent) (es : List TraceEvent) → events_from p words ≡ es → p < 2 ^ 64 → IsSpelled p words → IsSpelledAt p e n words → Reading p words (Some (e, n)) → Reads p words e n
-read_some p n words e [] eq hp h at reading =
-    absurd (omega (arith, ap length (no_events p words h eq), ap length at.begins, length-append (spelling p e) (drop n words), length-spelling p e, (words_of-bounds p e).0))
-read_some p n words e (f ∷ es) eq hp h at reading =
-    let same : Some (e, n) ≡ Some (f, length (spelling p f)) = reading f (spelled (place_then p f) es) (traceable_parts p words f es eq).0 (begins_with p words f es h eq) in
-    let same_event : e ≡ f = ap (λ (o : Option (TraceEvent × ℕ)). option_map_or (λ (r : TraceEvent × ℕ). r.0) o e) same in
-    let same_count : n ≡ length (spelling p f) = ap (λ (o : Option (TraceEvent × ℕ)). option_map_or (λ (r : TraceEvent × ℕ). r.1) o n) same in
-    subst (λ (g : TraceEvent). Reads p words g n) (sym same_event) (subst (λ (m : ℕ). Reads p words f m) (sym same_count) (reads_first p words f es hp h eq))
+-- The first of the spelled events is in the fields, and its kind tells how many words it takes.
+pub record ReadsFirst (p : ℕ) (words : List ℕ) : Type 0 where
+  pub event : TraceEvent
+  pub fields : fields_at p words ≡ Some event
+  pub reads : Reads p words event (words_of_kind (kind_of words))
+  pub no_access : 2 < kind_of words → (access_in (told event) ≡ None) × (place_then p event ≡ p)
 
-pub read_none : (p : ℕ) (words : List ℕ) (es : List TraceEvent) → events_from p words ≡ es → IsSpelled p words → Reading p words None → events_from p words ≡ []
-read_none p words [] eq h reading = eq
-read_none p words (f ∷ es) eq h reading =
-    let same : None ≡ Some (f, length (spelling p f)) = reading f (spelled (place_then p f) es) (traceable_parts p words f es eq).0 (begins_with p words f es h eq) in
-    absurd (none_or_some (f, length (spelling p f)) same)
+pub first_read : (p : ℕ) (words : List ℕ) → p < 2 ^ 64 → IsSpelled p words → 0 < length words → ReadsFirst p words
+first_read p words hp h some = by_events (events_from p words) refl
   where
-    none_or_some : (r : TraceEvent × ℕ) → None ≡ Some r → ⊥
-    none_or_some r h = cc
+    by_events : (es : List TraceEvent) → events_from p words ≡ es → ReadsFirst p words
+    by_events [] eq = absurd (omega (arith, ap length (no_events p words h eq)))
+    by_events (e ∷ es) eq =
+        let tail = spelled (place_then p e) es in
+        let t = (traceable_parts p words e es eq).0 in
+        let w : words ≡ spelling p e ++ tail = begins_with p words e es h eq in
+        record {
+          event = e;
+          fields = ap (fields_at p) w ∙ fields_back p e tail hp t;
+          reads = subst (Reads p words e) (length-by_kind p e tail t ∙ sym (ap (λ (ws : List ℕ). words_of_kind (kind_of ws)) w)) (reads_first p words e es hp h eq);
+          no_access = λ k. no_access-by_kind p e tail t (subst (λ (ws : List ℕ). 2 < kind_of ws) w k);
+        }
 
 -- the first of some events is told, or else the first of the rest
 pub first_told-cons : (l : Label) (address word : ℕ) (s : Snapshot) (e : window.TraceEvent) (es : List window.TraceEvent) → first_told l address word s (e ∷ es) ≡ option_or (told_if l address word s e) (first_told l address word (snapshot_after s e) es)
@@ -122,13 +124,21 @@ seeks_on l address word p n q rest e now next words start seeks reads other note
     in
     subst (λ (s : Snapshot). SeeksOn l address word q (drop n rest) s words start) (sym noted) (subst (λ (m : ℕ). SeeksOn l address word m (drop n rest) (snapshot_after now (told e)) words start) (sym placed) after)
 
--- no event is left
-pub seeks_none : (l : Label) (address word p : ℕ) (rest : List ℕ) (now : Snapshot) (words : List ℕ) (start : Snapshot) → SeeksOn l address word p rest now words start → Reading p rest None → (None ≡ first_told l address word start (told_from words)) × (now ≡ after_all start (told_from words))
-seeks_none l address word p rest now words start seeks reading =
-    let none = read_none p rest (events_from p rest) refl seeks.is_spelled reading in (
-      sym (ap (λ (es : List TraceEvent). first_told l address word now (map told es)) none) ∙ seeks.same_found,
-      sym (ap (λ (es : List TraceEvent). after_all now (map told es)) none) ∙ seeks.same_end,
-    )
+pub some_left : (words : List ℕ) (b : Bool) → b ≡ (length words == 0) → b ≡ false → 0 < length words
+some_left [] b is h = absurd (false≢true (sym h ∙ is))
+some_left (w ∷ words) b is h = omega arith
 
-pub fewer : (xs ys : List ℕ) (n : ℕ) → length ys + n ≡ length xs → 1 ≤ n → length ys < length xs
-fewer xs ys n h some = omega arith
+pub none_left : (words : List ℕ) (b : Bool) → b ≡ (length words == 0) → b ≡ true → length words ≡ 0
+none_left words b is h = eqb-true (length words) 0 (sym is ∙ h)
+
+-- nothing is told of an event that is no access
+pub told_if-no_access : (l : Label) (address word : ℕ) (s : Snapshot) (e : window.TraceEvent) → access_in e ≡ None → None ≡ told_if l address word s e
+told_if-no_access l address word s e h = rw (h, and_right (is_under l s.label) false refl) refl
+
+-- no event is left
+pub seeks_none : (l : Label) (address word p : ℕ) (rest : List ℕ) (now : Snapshot) (words : List ℕ) (start : Snapshot) → SeeksOn l address word p rest now words start → length rest ≡ 0 → (None ≡ first_told l address word start (told_from words)) × (now ≡ after_all start (told_from words))
+seeks_none l address word p [] now words start seeks none = (
+  sym (ap (λ (es : List TraceEvent). first_told l address word now (map told es)) (events_from-nil p)) ∙ seeks.same_found,
+  sym (ap (λ (es : List TraceEvent). after_all now (map told es)) (events_from-nil p)) ∙ seeks.same_end,
+)
+seeks_none l address word p (x ∷ rest) now words start seeks none = absurd (omega arith)

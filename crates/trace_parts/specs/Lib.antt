@@ -1,3 +1,4 @@
+pub mod LabelRange
 pub mod Spelling
 pub mod Snapshot
 pub mod Held

@@ -1,15 +1,19 @@
 -- How a trace lies in memory: the words of its parts, and what stands now.
-use Rattle.std.specs.Prelude.{◌≡◌, ℕ, ◌+◌, ◌-◌, ◌*◌, ◌<◌, ◌≤◌, zero, suc, List, [], ◌∷◌, ◌++◌, length, map, take, drop, fold, reverse, vec_len, vec_capacity}
+use Rattle.std.specs.Prelude.{◌≡◌, ℕ, ◌+◌, ◌-◌, ◌*◌, ◌<◌, ◌≤◌, zero, suc, true, false, Option, List, [], ◌∷◌, ◌++◌, length, map, take, drop, fold, reverse, vec_len, vec_capacity}
+use Rattle.std.specs.List.{list_any}
 use Rattle.std.specs.Option.{option_map_or}
 use Rattle.std.specs.VecDeque.{deque_len, deque_capacity}
-use Rattle.run_laws.specs.Window.{place_after}
+use Rattle.run_record.specs.declared.entry.Label.{Label}
+use Rattle.run_laws.specs.Window.{place_after, is_label}
 use Rattle.run_laws.specs.Window as window
 use Rattle.trace_parts.specs.declared.event.TraceEvent.{TraceEvent}
+use Rattle.trace_parts.specs.declared.label_range.LabelRange.{LabelRange}
 use Rattle.trace_parts.specs.declared.standing.Standing.{Standing}
 use Rattle.trace_parts.specs.declared.ring.Part.{Part}
 use Rattle.trace_parts.specs.declared.ring.Ring.{Ring}
+use Rattle.trace_parts.specs.LabelRange.{is_in_range}
 use Rattle.trace_parts.specs.Spelling.{told, spelling, event_at}
-use Rattle.trace_parts.specs.Snapshot.{Snapshot, nothing_yet, snapshot_after, after_all}
+use Rattle.trace_parts.specs.Snapshot.{Snapshot, nothing_yet, snapshot_after, after_all, with_label}
 use Rattle.trace_parts.specs.Held.{HeldPart}
 
 -- the place of the last access
@@ -50,6 +54,10 @@ pub record HasRoom (spare : ℕ) (s : Standing) : Type 0 where
 abbrev pub told_from : List ℕ → List window.TraceEvent
 told_from words = map told (events_from 0 words)
 
+-- what stands before the part, but under that label
+abbrev pub start_under : Option Label → Part → Snapshot
+start_under label part = with_label label (snapshot_of part.before)
+
 abbrev pub held_part : Part → HeldPart
 held_part part = record { snapshot = snapshot_of part.before; events = told_from part.words.items }
 
@@ -66,14 +74,26 @@ abbrev pub oldest_of : Part → List Part → Part
 oldest_of current [] = current
 oldest_of current (part ∷ older) = oldest_of part older
 
+-- a label out of the range isn't among the events
+abbrev pub IsRangeOf : LabelRange → List window.TraceEvent → Type 0
+IsRangeOf labels events = (l : Label) → is_in_range labels l ≡ false → list_any (is_label l) events ≡ false
+
 -- a part of at most so many words
 pub record IsPart (size : ℕ) (part : Part) : Type 0 where
   pub is_spelled : IsSpelled 0 part.words.items
+  pub labels : IsRangeOf part.labels (told_from part.words.items)
   pub room : size ≤ vec_capacity part.words
 
 abbrev pub ArePartsOf : ℕ → List Part → Type 0
 ArePartsOf size [] = Unit {0}
 ArePartsOf size (part ∷ parts) = IsPart size part × ArePartsOf size parts
+
+-- Each of the parts, the newest first, leaves what stands before the next one, and the newest leaves that
+-- snapshot.
+abbrev pub LeadTo : Snapshot → List Part → Type 0
+LeadTo next [] = Unit {0}
+LeadTo next (part ∷ older) =
+    (next ≡ after_all (snapshot_of part.before) (told_from part.words.items)) × LeadTo (snapshot_of part.before) older
 
 -- There is room for the next part, if it begins while so many events may still be pushed.
 pub record NextIsReady (spare : ℕ) (ring : Ring) : Type 0 where
@@ -81,8 +101,8 @@ pub record NextIsReady (spare : ℕ) (ring : Ring) : Type 0 where
   pub locks : vec_len ring.standing.locks + spare ≤ vec_capacity ring.next.before.locks
   pub words : deque_len ring.older + 1 < ring.parts → ring.part_words ≤ vec_capacity ring.next.words
 
--- The parts are spelled and within their bounds, what stands now is what the current part leaves, and there
--- is room for `spare` events.
+-- The parts are spelled and within their bounds, each begins with what the one before it leaves, what stands
+-- now is what the current part leaves, and there is room for `spare` events.
 pub record IsRing (ring : Ring) : Type 0 where
   pub least_words : 64 ≤ ring.part_words
   pub least_parts : 2 ≤ ring.parts
@@ -90,6 +110,7 @@ pub record IsRing (ring : Ring) : Type 0 where
   pub current : IsPart ring.part_words ring.current
   pub within : vec_len ring.current.words ≤ ring.part_words
   pub older : ArePartsOf ring.part_words ring.older.items
+  pub in_order : LeadTo (snapshot_of ring.current.before) ring.older.items
   pub few : deque_len ring.older < ring.parts
   pub older_room : ring.parts ≤ deque_capacity ring.older + 1
   pub previous : ring.previous ≡ last_place 0 (events_from 0 ring.current.words.items)
@@ -141,6 +162,8 @@ pub record Appends (e : TraceEvent) (written : List ℕ) (old new : Ring) : Type
   pub words : new.current.words.items ≡ old.current.words.items ++ written
   pub room : vec_capacity old.current.words ≤ vec_capacity new.current.words
   pub before : new.current.before ≡ old.current.before
+  pub included : (l : Label) → is_label l (told e) ≡ true → is_in_range new.current.labels l ≡ true
+  pub labels : (l : Label) → is_in_range old.current.labels l ≡ true → is_in_range new.current.labels l ≡ true
   pub older : new.older ≡ old.older
   pub next : new.next ≡ old.next
   pub now : snapshot_of new.standing ≡ snapshot_after (snapshot_of old.standing) (told e)

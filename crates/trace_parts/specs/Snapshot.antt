@@ -24,3 +24,7 @@ snapshot_after s (Traced e) = record { label = s.label; frames = frames_after s.
 -- what stands after all these events, from what stood before
 abbrev pub after_all : Snapshot → List TraceEvent → Snapshot
 after_all s events = fold snapshot_after s events
+
+-- the same stack and locks, under that label
+abbrev pub with_label : Option Label → Snapshot → Snapshot
+with_label label s = record { label = label; frames = s.frames; locks = s.locks }

@@ -7,7 +7,7 @@ use Rattle.run_laws.specs.Words.{word_of}
 use Rattle.run_laws.specs.Window.{TraceEvent, Labelled, Traced, is_label}
 use Rattle.trace_parts.specs.declared.restored.Restored.{Restored}
 use Rattle.trace_parts.specs.declared.restored.Restored.TheVariants.{Found, Lost}
-use Rattle.trace_parts.specs.Snapshot.{Snapshot, nothing_yet, snapshot_after}
+use Rattle.trace_parts.specs.Snapshot.{Snapshot, nothing_yet, snapshot_after, with_label}
 use Rattle.trace_parts.specs.Held.{HeldPart, HeldTrace, Holds, has_label}
 
 abbrev pub access : ℕ → ℕ → ℕ → Bool → Bool → Access
@@ -56,7 +56,7 @@ restored None = Lost
 restored (Some seen) = told_of seen
 
 abbrev pub without_label : Snapshot → Snapshot
-without_label s = record { label = None; frames = s.frames; locks = s.locks }
+without_label s = with_label None s
 
 -- what stood before the first of the parts, which are given the newest first
 abbrev pub start_of : List HeldPart → Snapshot

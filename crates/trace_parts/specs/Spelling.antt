@@ -1,5 +1,5 @@
 -- The words of a trace event.
-use Rattle.std.specs.Prelude.{◌≡◌, ℕ, ◌+◌, ◌-◌, ◌*◌, ◌/◌, ◌%◌, ◌^◌, ◌==◌, ◌≤◌, ◌&&◌, Bool, true, nat_lt, nat_le, if◌then◌else◌, List, [], ◌∷◌, ◌++◌, drop, nat_eq, Option, Some, None, length}
+use Rattle.std.specs.Prelude.{◌≡◌, ℕ, ◌+◌, ◌-◌, ◌*◌, ◌/◌, ◌%◌, ◌^◌, ◌==◌, ◌≤◌, ◌&&◌, ◌||◌, Bool, true, nat_lt, nat_le, if◌then◌else◌, List, [], ◌∷◌, ◌++◌, drop, nat_eq, Option, Some, None, length, slice_index}
 use Rattle.std.specs.Option.{option_map}
 use Rattle.std.specs.List.{starts_with}
 use Rattle.run_record.specs.declared.event.Event.TheVariants as events
@@ -101,6 +101,14 @@ fields_in previous w rest =
 abbrev pub fields_at : ℕ → List ℕ → Option TraceEvent
 fields_at previous [] = None
 fields_at previous (w ∷ rest) = fields_in previous w rest
+
+-- the kind of the event with whose words these begin
+abbrev pub kind_of : List ℕ → ℕ
+kind_of words = bits (slice_index words 0) 0 3
+
+-- how many words an event of that kind takes
+abbrev pub words_of_kind : ℕ → ℕ
+words_of_kind kind = if kind == 2 then 3 else if (kind == 3) || (kind == 5) || (kind == 6) then 2 else 1
 
 -- the event, where it may be traced and the words begin with its own
 abbrev pub if_spelled : ℕ → List ℕ → Option TraceEvent → Option TraceEvent

@@ -8,6 +8,7 @@
 #![tactic(auto)]
 
 mod event;
+mod label_range;
 mod restored;
 mod ring;
 mod spell;

@@ -1,16 +1,19 @@
 // An earlier access, found again in a trace.
-ghost use Rattle.std.specs.Prelude.{◌≡◌, ℕ, ◌+◌, ◌-◌, ◌^◌, ◌<◌, ◌≤◌, ◌==◌, ◌&&◌, ◌∷◌, List, reverse, min, find, Bool, None, Some, IfOk, if◌then◌else◌};
+ghost use Rattle.std.specs.Prelude.{◌≡◌, ℕ, ◌+◌, ◌-◌, ◌^◌, ◌<◌, ◌≤◌, ◌==◌, ◌&&◌, ◌∷◌, List, length, reverse, min, find, Bool, None, Some, IfOk, OnOk};
 ghost use Rattle.std.specs.Option.{option_map};
 ghost use Rattle.run_laws.specs.Accesses.{Access, end_of};
 ghost use Rattle.run_laws.specs.Words.{word_of};
-ghost use Rattle.trace_parts.specs.Snapshot.{after_all};
+ghost use Rattle.trace_parts.specs.Part.{snapshot_of};
+ghost use Rattle.trace_parts.specs.Snapshot.{snapshot_after, after_all};
 ghost use Rattle.trace_parts.specs.Sought as sought;
 ghost use Rattle.trace_parts.specs.Sought.{access};
-ghost use Rattle.trace_parts.specs.Spelling.{told};
+ghost use Rattle.trace_parts.specs.Spelling.{told, kind_of, words_of_kind, fields_at};
+ghost use Rattle.trace_parts.specs.declared.event.TraceEvent.{TraceEvent as Traced};
+ghost use Rattle.trace_parts.specs.declared.event.TraceEvent.TheVariants as variants;
 
-use crate::ring::place_after;
+use crate::TraceEvent;
+use crate::spell::{bits, label_in, short_place};
 use crate::standing::Standing;
-use crate::{TraceEvent, decode};
 use run_record::{Items, Label, Locks, NoMemory, Places};
 use std::alloc::{AllocError, Global};
 
@@ -40,10 +43,10 @@ pub(crate) struct Sought {
 }
 
 impl Sought {
-    ghost use Rattle.trace_parts.specs.Sought.{is_under, is_sought, leaves_word, told_of, told_if, seen_from};
-    ghost use Rattle.trace_parts.specs.Part.{snapshot_of, IsSpelled, told_from};
+    ghost use Rattle.trace_parts.specs.Sought.{is_under, is_sought, leaves_word, told_of, seen_from};
+    ghost use Rattle.trace_parts.specs.Part.{IsSpelled, told_from};
 
-    fn is_under(&self, label: &Option<Label>) -> bool
+    pub(crate) fn is_under(&self, label: &Option<Label>) -> bool
         ensures { result ≡ is_under self.now.label label.now }
     {
         match label {
@@ -71,58 +74,18 @@ impl Sought {
         low <= self.word && self.word - low == high
     }
 
-    /// An access under that label leaves the sought word.
-    fn is_left_by(
-        &self,
-        label: &Option<Label>,
-        addr: u64,
-        size: u32,
-        read: bool,
-        atomic: bool,
-    ) -> bool
-        ensures { (place : ℕ) → result ≡ (is_under self.now.label label.now
+    /// Whether the access leaves the sought word, where it is known whether the label is the sought one.
+    #[inline(always)]
+    fn is_left_by(&self, under: bool, announced: &AccessWords) -> bool
+        ensures { (place : ℕ) → result ≡ (under
             && leaves_word self.now.label self.now.granule_address self.now.word
-            (access place addr size read atomic)) }
+            (access place announced.now.addr announced.now.size announced.now.read announced.now.atomic)) }
     {
-        if !self.is_under(label) {
+        if !under {
             return false;
         }
-        let mask = mask_at(addr, size, self.granule_address);
-        mask != 0 && self.has_word(mask, read, atomic)
-    }
-
-    /// What is told of the event, where it is a sought access.
-    fn told(
-        &self,
-        alloc: Global,
-        standing: &Standing,
-        event: &TraceEvent,
-    ) -> Result<Option<Restored>, NoMemory>
-        ensures { IfOk result (λ found. found ≡ told_if self.now.label self.now.granule_address self.now.word
-            (snapshot_of standing.now) (told event.now)) }
-    {
-        let TraceEvent::Access {
-            place,
-            addr,
-            size,
-            read,
-            atomic,
-        } = *event
-        else {
-            return Ok(None);
-        };
-        if !self.is_left_by(&standing.label, addr, size, read, atomic) {
-            return Ok(None);
-        }
-        let stack = stack_of(alloc, place, &standing.frames)?;
-        let locks = Vec::from_slice(alloc, &standing.locks)?;
-        Ok(Some(Restored::Found {
-            place,
-            addr,
-            size,
-            stack: Items::from_vec(stack),
-            locks: Items::from_vec(locks),
-        }))
+        let mask = mask_at(announced.addr, announced.size, self.granule_address);
+        mask != 0 && self.has_word(mask, announced.read, announced.atomic)
     }
 
     /// Goes through the events that the words spell, up to the first sought access.
@@ -141,16 +104,118 @@ impl Sought {
     {
         let mut rest = words;
         let mut previous = 0;
-        while let Some((event, count)) = decode(rest, previous) {
-            if let Some(found) = self.told(alloc, standing, &event)? {
-                return Ok(Some(found));
+        let mut under = self.is_under(&standing.label);
+        while !rest.is_empty() {
+            if bits(rest[0], 0, 3) > 2 {
+                let count = note_first(standing, rest)?;
+                under = self.is_under(&standing.label);
+                (_, rest) = rest.split_at(count);
+                continue;
             }
-            standing.note(&event)?;
-            previous = place_after(previous, &event);
-            (_, rest) = rest.split_at(usize::from(count));
+            let access = first_access(rest, previous);
+            if self.is_left_by(under, &access) {
+                return Ok(Some(told_at(alloc, standing, &access)?));
+            }
+            previous = access.place;
+            (_, rest) = rest.split_at(access.words);
         }
         Ok(None)
     }
+}
+
+/// An access as words have it, and how many words it takes.
+#[derive(Drop)]
+struct AccessWords {
+    place: u64,
+    addr: u64,
+    size: u32,
+    read: bool,
+    atomic: bool,
+    words: usize,
+}
+
+/// The access with which these words begin.
+#[inline(always)]
+fn first_access(words: &[u64], previous: u64) -> AccessWords
+    requires some { 0 < length words.now }
+    requires whole { words_of_kind (kind_of words.now) ≤ length words.now }
+    requires kind { kind_of words.now ≤ 2 }
+    ensures words { result.words ≡ words_of_kind (kind_of words.now) }
+    ensures fields { (e : Traced) → fields_at previous words.now ≡ Some e →
+        e ≡ variants.Access result.place result.addr result.size result.read result.atomic }
+{
+    let word = words[0];
+    let read = bits(word, 3, 1) == 1;
+    let atomic = bits(word, 4, 1) == 1;
+    if bits(word, 0, 3) == 2 {
+        return AccessWords {
+            place: words[1],
+            addr: words[2],
+            size: bits(word, 8, 17) as u32,
+            read,
+            atomic,
+            words: 3,
+        };
+    }
+    AccessWords {
+        place: short_place(previous, word),
+        addr: word >> 23,
+        size: 1 << bits(word, 5, 2),
+        read,
+        atomic,
+        words: 1,
+    }
+}
+
+/// Notes the event with which these words begin, which isn't an access. Gives how many words it takes.
+#[inline(always)]
+fn note_first(standing: &mut Standing, words: &[u64]) -> Result<usize, NoMemory>
+    requires some { 0 < length words.now }
+    requires whole { words_of_kind (kind_of words.now) ≤ length words.now }
+    requires kind { 2 < kind_of words.now }
+    ensures words { IfOk result (λ count. count ≡ words_of_kind (kind_of words.now)) }
+    ensures noted { (previous : ℕ) (e : Traced) → fields_at previous words.now ≡ Some e →
+        OnOk result (snapshot_of standing.new ≡ snapshot_after (snapshot_of standing.old) (told e)) }
+{
+    let word = words[0];
+    let read = bits(word, 3, 1) == 1;
+    let kind = bits(word, 0, 3);
+    if kind == 3 {
+        standing.note(&TraceEvent::Enter { pc: words[1] })?;
+        return Ok(2);
+    }
+    if kind == 4 {
+        standing.note(&TraceEvent::Leave)?;
+        return Ok(1);
+    }
+    if kind == 5 {
+        let addr = words[1];
+        standing.note(&TraceEvent::Lock { addr, read })?;
+        return Ok(2);
+    }
+    if kind == 6 {
+        let addr = words[1];
+        standing.note(&TraceEvent::Unlock { addr, read })?;
+        return Ok(2);
+    }
+    standing.note(&label_in(word))?;
+    Ok(1)
+}
+
+/// What is told of an access before which the thread stands so.
+fn told_at(alloc: Global, standing: &Standing, access: &AccessWords) -> Result<Restored, NoMemory>
+    ensures { IfOk result (λ found. found ≡ Restored.Found access.now.place access.now.addr access.now.size
+        (access.now.place ∷ (snapshot_of standing.now).frames) (snapshot_of standing.now).locks) }
+{
+    let stack = stack_of(alloc, access.place, &standing.frames)?;
+    let locks = Vec::from_slice(alloc, &standing.locks)?;
+    Ok(Restored::Found {
+        place: access.place,
+        addr: access.addr,
+        size: access.size,
+        stack: Items::from_vec(stack),
+        locks: Items::from_vec(locks),
+    })
 }
 
 /// The bytes that an access covers among the eight from `address` on, the least bit for the first.

@@ -1,10 +1,12 @@
 // The parts of a trace in memory.
-ghost use Rattle.std.specs.Prelude.{◌≡◌, ℕ, ◌+◌, ◌-◌, ◌*◌, ◌<◌, ◌≤◌, [], length, take, IfOk, OnOk, vec_len, vec_capacity, if◌then◌else◌, nat_lt};
+ghost use Rattle.std.specs.Prelude.{◌≡◌, ℕ, ◌+◌, ◌-◌, ◌*◌, ◌<◌, ◌≤◌, [], length, take, find, None, IfOk, OnOk, vec_len, vec_capacity, if◌then◌else◌, nat_lt};
+ghost use Rattle.std.specs.Option.{option_map};
 ghost use Rattle.std.specs.VecDeque.{deque_len, deque_capacity};
 ghost use Rattle.trace_parts.specs.Spelling.{IsTraceable, told};
 ghost use Rattle.trace_parts.specs.Held.{with_pushed};
 ghost use Rattle.trace_parts.specs.Part.{place_then};
 
+use crate::label_range::LabelRange;
 use crate::restored::Sought;
 use crate::standing::Standing;
 use crate::{Restored, TraceEvent, Words, encode};
@@ -16,19 +18,51 @@ use std::mem;
 /// For so many events `make_room` makes room.
 const EVENTS: usize = 4;
 
-/// Some events in a row, and what stood before them.
+/// Some events in a row, what stood before them, and which labels may be among them.
 #[derive(Drop)]
 pub(crate) struct Part {
     pub(crate) words: Vec<u64>,
     pub(crate) before: Standing,
+    pub(crate) labels: LabelRange,
 }
 
 impl Part {
+    ghost use Rattle.trace_parts.specs.Snapshot.{after_all};
+    ghost use Rattle.trace_parts.specs.Sought.{is_under, is_sought, told_of, seen_from};
+    ghost use Rattle.trace_parts.specs.Part.{start_under, told_from, IsSpelled, IsRangeOf};
+
     fn new(alloc: Global) -> Part {
         Part {
             words: Vec::new(alloc),
             before: Standing::new(alloc),
+            labels: LabelRange::Empty,
         }
+    }
+
+    /// The first sought access of the part, where that label stands before it. The part is walked
+    /// only where its accesses may be under the sought label.
+    fn seek(
+        &self,
+        sought: &Sought,
+        alloc: Global,
+        standing: &mut Standing,
+    ) -> Result<Option<Restored>, NoMemory>
+        requires spelled { IsSpelled 0 self.now.words.items }
+        requires labels { IsRangeOf self.now.labels (told_from self.now.words.items) }
+        ensures found { IfOk result (λ found. found ≡ option_map told_of (find
+            (is_sought sought.now.label sought.now.granule_address sought.now.word)
+            (seen_from (start_under standing.old.label self.now) (told_from self.now.words.items)))) }
+        ensures passed { IfOk result (λ found. found ≡ None →
+            is_under sought.now.label standing.new.label ≡ is_under sought.now.label
+            (after_all (start_under standing.old.label self.now) (told_from self.now.words.items)).label) }
+    {
+        let label = standing.label;
+        if !sought.is_under(&label) && !self.labels.contains(&sought.label) {
+            return Ok(None);
+        }
+        standing.copy_from(&self.before)?;
+        standing.label = label;
+        sought.seek(alloc, &self.words, standing)
     }
 }
 
@@ -54,8 +88,8 @@ pub(crate) struct Ring {
 }
 
 impl Ring {
-    ghost use Rattle.trace_parts.specs.Sought.{restored, first_held, without_label};
-    ghost use Rattle.trace_parts.specs.Part.{oldest_of, snapshot_of, held_in, HasRoom, IsRing, BeginsEmpty, NextIsReady, OnlyRoomGrew, Begins, Appends};
+    ghost use Rattle.trace_parts.specs.Sought.{restored, first_held};
+    ghost use Rattle.trace_parts.specs.Part.{snapshot_of, held_in, HasRoom, IsRing, BeginsEmpty, NextIsReady, OnlyRoomGrew, Begins, Appends};
 
     /// No part has begun.
     pub(crate) fn new(alloc: Global, part_words: u32, parts: u32) -> Result<Ring, NoMemory>
@@ -78,6 +112,7 @@ impl Ring {
             current: Part {
                 words,
                 before: Standing::new(alloc),
+                labels: LabelRange::Empty,
             },
             next: Part::new(alloc),
             standing: Standing::new(alloc),
@@ -138,6 +173,7 @@ impl Ring {
         let buffers = self.recycled();
         let mut begun = mem::replace(&mut self.next, buffers);
         begun.words.clear();
+        begun.labels = LabelRange::Empty;
         let _copied = begun.before.copy_from(&self.standing);
         let ended = mem::replace(&mut self.current, begun);
         self.older.push_front_reserved(ended);
@@ -153,6 +189,7 @@ impl Ring {
     {
         let _written = self.current.words.extend_from_slice(words.as_slice());
         let _noted = self.standing.note(event);
+        self.current.labels.include_event(event);
         self.previous = place_after(self.previous, event);
         self.spare -= 1;
     }
@@ -180,26 +217,6 @@ impl Ring {
         }
     }
 
-    fn oldest(&self) -> &Part
-        ensures { result.now ≡ oldest_of self.now.current self.now.older.items }
-    {
-        match self.older.back() {
-            Some(part) => part,
-            None => &self.current,
-        }
-    }
-
-    /// What stood before the oldest part, but for the label.
-    fn standing_at_start(&self) -> Result<Standing, NoMemory>
-        ensures { IfOk result (λ standing. snapshot_of standing
-            ≡ without_label (snapshot_of (oldest_of self.now.current self.now.older.items).before)) }
-    {
-        let mut standing = Standing::new(self.alloc);
-        standing.copy_from(&self.oldest().before)?;
-        standing.label = None;
-        Ok(standing)
-    }
-
     /// What is told of the first sought access of the held parts.
     pub(crate) fn restore(&self, sought: &Sought) -> Result<Restored, NoMemory>
         requires sound { IsRing self.now }
@@ -207,14 +224,14 @@ impl Ring {
         ensures { IfOk result (λ found. found ≡ restored
             (first_held (held_in self.now) sought.now.label sought.now.granule_address sought.now.word)) }
     {
-        let mut standing = self.standing_at_start()?;
+        let mut standing = Standing::new(self.alloc);
         for i in (0..self.older.len()).rev() {
             let part = &self.older[i];
-            if let Some(found) = sought.seek(self.alloc, &part.words, &mut standing)? {
+            if let Some(found) = part.seek(sought, self.alloc, &mut standing)? {
                 return Ok(found);
             }
         }
-        match sought.seek(self.alloc, &self.current.words, &mut standing)? {
+        match self.current.seek(sought, self.alloc, &mut standing)? {
             Some(found) => Ok(found),
             None => Ok(Restored::Lost),
         }

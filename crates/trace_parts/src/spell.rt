@@ -102,13 +102,20 @@ fn fields_in(words: &[u64], previous: u64) -> Option<TraceEvent>
     }
 }
 
+/// The place of an access in one word.
+pub(crate) fn short_place(previous: u64, word: u64) -> u64
+    ensures { result ≡ spelling.place_from previous (spelling.bits word 7 16 * 4) }
+{
+    previous
+        .wrapping_add(bits(word, 7, 16) * 4)
+        .wrapping_sub(131_072)
+}
+
 fn short_in(previous: u64, word: u64) -> TraceEvent
     ensures { result ≡ spelling.short_in previous word }
 {
     TraceEvent::Access {
-        place: previous
-            .wrapping_add(bits(word, 7, 16) * 4)
-            .wrapping_sub(131_072),
+        place: short_place(previous, word),
         addr: word >> 23,
         size: 1 << bits(word, 5, 2),
         read: bits(word, 3, 1) == 1,
@@ -130,7 +137,8 @@ fn long_in(word: u64, rest: &[u64]) -> Option<TraceEvent>
     })
 }
 
-fn label_in(word: u64) -> TraceEvent
+#[inline(always)]
+pub(crate) fn label_in(word: u64) -> TraceEvent
     ensures { result ≡ spelling.label_in word }
 {
     TraceEvent::Label {
@@ -141,7 +149,8 @@ fn label_in(word: u64) -> TraceEvent
 }
 
 /// Some bits of a word.
-fn bits(word: u64, from: u32, count: u32) -> u64
+#[inline(always)]
+pub(crate) fn bits(word: u64, from: u32, count: u32) -> u64
     requires from { from < 64 }
     requires count { count < 64 }
     ensures value { result ≡ spelling.bits word from count }

@@ -64,6 +64,7 @@ impl Standing {
     }
 
     /// One more event. Without room it may fail, and then nothing has changed.
+    #[inline(always)]
     pub(crate) fn note(&mut self, event: &TraceEvent) -> Result<(), NoMemory>
         ensures ok { OnOk result (snapshot_of self.new ≡ snapshot_after (snapshot_of self.old) (told event.now)) }
         ensures err { OnErr result (snapshot_of self.new ≡ snapshot_of self.old) }

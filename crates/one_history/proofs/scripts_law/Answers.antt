@@ -19,6 +19,7 @@ without_object (events.Unlock addr read) q = (refl, refl)
 without_object (events.Acquire addr part) q = (refl, refl)
 without_object (events.Release addr part replaces) q = absurd cc
 without_object (events.Destroy addr) q = (refl, refl)
+without_object (events.Clear addr) q = (refl, refl)
 without_object (events.Access place addr size read atomic) q = (refl, refl)
 without_object (events.Put value count) q = (refl, refl)
 

@@ -65,6 +65,7 @@ fn ends_channel(event: Event, channel: (u64, Part)) -> bool {
             replaces: true,
         } => (addr, part) == channel,
         Event::Destroy { addr } => addr == channel.0,
+        Event::Clear { addr } => (addr, Part::Main) == channel,
         _ => false,
     }
 }

@@ -60,7 +60,7 @@ fn add_atomic(text: &mut String, draws: &mut Draws) -> Result<(), AllocError> {
     write!(text, " E(atomic64_{name},{offset},1,{order})")
 }
 
-static CALLS: [&str; 9] = [
+static CALLS: [&str; 11] = [
     "acquire,64",
     "release,64",
     "post_lock,72",
@@ -68,6 +68,8 @@ static CALLS: [&str; 9] = [
     "post_lock,72,8",
     "pre_unlock,72,8",
     "destroy,64",
+    "atomic64_store,64,1,0",
+    "atomic64_store,72,1,0",
     "func_entry,260",
     "func_exit,0",
 ];
@@ -86,7 +88,7 @@ fn add_operation(text: &mut String, draws: &mut Draws) -> Result<(), AllocError>
             write!(text, " E(write_range,{offset},{size})")
         }
         _ => {
-            let name = CALLS[draws.below(9) as usize];
+            let name = CALLS[draws.below(11) as usize];
             write!(text, " E({name})")
         }
     }

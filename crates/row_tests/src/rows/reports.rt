@@ -157,13 +157,20 @@ static ACCESSES: [Row<'static>; 13] = [
         status: 66,
         ..ROW
     },
-    // A relaxed store leaves what an earlier store released.
+    // A relaxed store takes back what an earlier store released.
     Row {
         program: "main: N(a) E(write8,0) E(atomic64_store,8,1,3) E(atomic64_store,8,2,0) T; a: E(atomic64_load,8,2) E(read8,0) T",
-        summary: (0, 0, 0, 2, "all ended"),
+        races: &[Race {
+            mine: "Read of size 8 at 0x0000000001000000 by thread T1",
+            stack: &[(UNKNOWN, 0x100c0)],
+            previous: BY_MAIN,
+            previous_stack: &[(UNKNOWN, 0x10028)],
+        }],
+        summary: (1, 0, 0, 2, "all ended"),
+        status: 66,
         ..ROW
     },
-    // So does a relaxed addition.
+    // A relaxed addition leaves it.
     Row {
         program: "main: N(a) E(write8,0) E(atomic64_store,8,1,3) E(atomic64_fetch_add,8,2,0) T; a: E(atomic64_load,8,2) E(read8,0) T",
         summary: (0, 0, 0, 2, "all ended"),
@@ -179,7 +186,7 @@ fn ordered_and_racing_accesses_are_told(rt: HostRuntime) -> Result<(), Fail> {
     Ok(())
 }
 
-static LOCKS: [Row<'static>; 3] = [
+static LOCKS: [Row<'static>; 4] = [
     Row {
         program: "main: N(a) E(post_lock,8) E(write8,0) E(pre_unlock,8) T; a: E(write8,0) T",
         races: &[Race {
@@ -200,6 +207,19 @@ static LOCKS: [Row<'static>; 3] = [
             stack: &[(UNKNOWN, 0x1009c)],
             previous: "write of size 8 at 0x0000000001000000 by main thread (mutexes: read 0x0000000001000008)",
             previous_stack: &[(UNKNOWN, 0x1004c)],
+        }],
+        summary: (1, 0, 0, 2, "all ended"),
+        status: 66,
+        ..ROW
+    },
+    // A lock that is taken twice round another: the last one goes.
+    Row {
+        program: "main: N(a) E(post_lock,8) E(post_lock,16) E(post_lock,8) E(pre_unlock,8) E(write8,0) T; a: E(write8,0) T",
+        races: &[Race {
+            mine: BY_T1,
+            stack: &[(UNKNOWN, 0x100e4)],
+            previous: "write of size 8 at 0x0000000001000000 by main thread (mutexes: write 0x0000000001000008, write 0x0000000001000010)",
+            previous_stack: &[(UNKNOWN, 0x100b8)],
         }],
         summary: (1, 0, 0, 2, "all ended"),
         status: 66,

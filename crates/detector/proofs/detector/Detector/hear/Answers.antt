@@ -1,5 +1,5 @@
 use Rattle.std.proofs.Common.{rules, subst, refl}
-use Rattle.detector.proofs.HearLaws.{needs, hears_begin, hears_join, hears_acquire, hears_end, hears_destroy, hears_note, hears_put, hears_release, hears_create}
+use Rattle.detector.proofs.HearLaws.{needs, hears_begin, hears_join, hears_acquire, hears_end, hears_destroy, hears_clear, hears_note, hears_put, hears_release, hears_create}
 use Rattle.detector.specs.Hears.{CanHear}
 use Rattle.detector.proofs.detector.Detector.hear.Goals as goal
 
@@ -26,6 +26,9 @@ returns-in-Acquire c = record { heard = hears_acquire _ _ _ _ _ _ _ c.requires.g
 
 pub returns-in-Destroy : goal.returns-in-Destroy
 returns-in-Destroy c = record { heard = hears_destroy _ _ _ _ _ _ _ c.requires.going _ c.in-Destroy.is c.destroy.ensures }
+
+pub returns-in-Clear : goal.returns-in-Clear
+returns-in-Clear c = record { heard = hears_clear _ _ _ _ _ _ _ c.requires.going _ c.in-Clear.is c.clear.ensures }
 
 pub returns-in-Enter : goal.returns-in-Enter
 returns-in-Enter c = record { heard = hears_note _ _ _ _ _ _ _ c.requires.going (search rules) c.note.ensures }

@@ -7,12 +7,14 @@ use Rattle.trace_parts.proofs.restored.Sought.is_left_by.Goals as goal
 pub returns-then-mask-ne0 : goal.returns-then-mask-ne0
 returns-then-mask-ne0 c =
     λ place.
-    let a = c.args in
-    left_some a.self.now.label a.self.now.granule_address a.self.now.word c.mask_at-mask.result a.label.now (access place a.addr a.size a.read a.atomic) c.has_word.result (c.mask_at-mask.ensures.value place a.read a.atomic) (sym c.is_under.ensures ∙ c.if-not-is_under.false) c.if-mask-ne0.true c.has_word.ensures
+    let s = c.args.self.now in
+    let a = c.args.announced.now in
+    left_some s.label s.granule_address s.word c.mask_at-mask.result c.args.under (access place a.addr a.size a.read a.atomic) c.has_word.result (c.mask_at-mask.ensures.value place a.read a.atomic) c.if-not-under.false c.if-mask-ne0.true c.has_word.ensures
 
 pub returns-else-mask-ne0 : goal.returns-else-mask-ne0
 returns-else-mask-ne0 c =
     λ place.
-    let a = c.args in
+    let s = c.args.self.now in
+    let a = c.args.announced.now in
     ap (λ (b : Bool). not b) (eq-eqb c.mask_at-mask.result 0 c.if-mask-ne0.false)
-    ∙ left_none a.self.now.label a.self.now.granule_address a.self.now.word c.mask_at-mask.result a.label.now (access place a.addr a.size a.read a.atomic) (c.mask_at-mask.ensures.value place a.read a.atomic) (sym c.is_under.ensures ∙ c.if-not-is_under.false) c.if-mask-ne0.false
+    ∙ left_none s.label s.granule_address s.word c.mask_at-mask.result c.args.under (access place a.addr a.size a.read a.atomic) (c.mask_at-mask.ensures.value place a.read a.atomic) c.if-not-under.false c.if-mask-ne0.false

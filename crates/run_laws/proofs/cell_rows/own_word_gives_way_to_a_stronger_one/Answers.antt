@@ -1,0 +1,17 @@
+use Rattle.std.proofs.Common.{[], refl, inl, arith}
+use Rattle.run_record.specs.declared.finished.GuestEnd.TheVariants.{AllEnded}
+use Rattle.run_laws.specs.Labels.{labels, queue}
+use Rattle.run_laws.specs.Clocks.{clocks}
+use Rattle.run_laws.specs.Faithful.{OneByOne}
+use Rattle.run_laws.specs.Scripts.{scripted}
+use Rattle.run_laws.specs.Rows.{granule_in, no_rules, usual}
+use Rattle.run_laws.specs.CellRows.{own_words, own_words_scripts}
+use Rattle.run_laws.proofs.RoundTests.{lawful-true}
+use Rattle.run_laws.proofs.ShowLaw.{shows}
+use Rattle.run_laws.proofs.cell_rows.own_word_gives_way_to_a_stronger_one.Goals as goal
+
+pub returns : goal.returns
+unfolding labels queue clocks
+returns c =
+    shows OneByOne usual [] own_words_scripts own_words no_rules _ (omega arith) (omega arith) (omega arith)
+    (lawful-true OneByOne usual [] (scripted own_words_scripts) granule_in own_words 1 refl refl refl refl AllEnded (inl refl)) refl
