@@ -338,7 +338,8 @@ static char order[8];
 
 static void *sleep_and_mark(void *text)
 {
-    usleep((useconds_t)(*(char *)text - '0') * 100000);
+    // so long that the others have begun, also with turns of 10,000 instructions
+    sleep((unsigned)(*(char *)text - '0') * 1000);
     pthread_mutex_lock(&mutex);
     strcat(order, text);
     pthread_mutex_unlock(&mutex);
