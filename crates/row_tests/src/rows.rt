@@ -12,7 +12,7 @@ mod reports;
 mod threads;
 mod words;
 
-use crate::{AssemblyError, DebugSection, Form, assemble};
+use crate::{AssemblyError, Form, assemble};
 use std::alloc::{AllocError, Global};
 use std::process::Abort;
 use std::test::Fail;

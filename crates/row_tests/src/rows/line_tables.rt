@@ -2,6 +2,7 @@
 use super::named::{NAMED_RACE, RACE_WITHOUT_LINES};
 use super::reports::RACING;
 use super::*;
+use crate::DebugSection;
 
 /// One unit of version 5 with the lines of the unit of version 4. Its directories are /w and src, and file 1 is a.c in
 /// directory 1. The format of the directories begins at 30, that of the files at 41, and the program at 57.

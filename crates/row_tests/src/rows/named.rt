@@ -1,6 +1,7 @@
 // Names, files and lines of places, and rules that suppress reports by them.
 use super::reports::{BY_MAIN, BY_T1, RACING};
 use super::*;
+use crate::DebugSection;
 
 /// One unit of version 4: line 10 of src/a.c from 0x10000 on, line 20 from 0x1003c on, and the end at
 /// 0x10068. The byte at 14 is the unit's line_range.
