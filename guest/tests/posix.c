@@ -51,6 +51,12 @@ static void *wait_then_same(void *argument)
     return argument;
 }
 
+static void *detach_itself(void *argument)
+{
+    check(pthread_detach(pthread_self()) == 0);
+    return argument;
+}
+
 static void try_threads(void)
 {
     pthread_t one, other;
@@ -77,6 +83,9 @@ static void try_threads(void)
     check(pthread_detach(one) == 0 && pthread_detach(one) == EINVAL && pthread_join(one, NULL) == EINVAL);
     sem_post(&go);
     usleep(20000);
+    start(&one, detach_itself, NULL);
+    usleep(20000);
+    check(pthread_join(one, NULL) == EINVAL);
     pthread_attr_t attributes;
     int state = -1;
     check(pthread_attr_init(&attributes) == 0);
