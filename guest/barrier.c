@@ -28,13 +28,16 @@ int pthread_barrier_destroy(pthread_barrier_t *barrier)
     return 0;
 }
 
-// All that any thread did before it arrived happens before what each does after it leaves.
+// All that any thread did before it arrived happens before what each does after it leaves. Rounds release and
+// acquire at two addresses in turn, so that a thread that leaves late gets nothing of what others did up to their
+// next arrival.
 int pthread_barrier_wait(pthread_barrier_t *barrier)
 {
     ENTER();
-    __tsan_release(barrier);
-    __tsan_read1(barrier);
     unsigned round = __atomic_load_n(&barrier->guest_round, __ATOMIC_ACQUIRE);
+    void *edge = (unsigned *)barrier + round % 2;
+    __tsan_release(edge);
+    __tsan_read1(barrier);
     unsigned arrived = __atomic_add_fetch(&barrier->guest_arrived, 1, __ATOMIC_ACQ_REL);
     int is_last = arrived == barrier->guest_needed;
     if (is_last) {
@@ -47,7 +50,7 @@ int pthread_barrier_wait(pthread_barrier_t *barrier)
         }
     }
     __tsan_read1(barrier);
-    __tsan_acquire(barrier);
+    __tsan_acquire(edge);
     LEAVE();
     return is_last ? PTHREAD_BARRIER_SERIAL_THREAD : 0;
 }

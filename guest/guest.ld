@@ -2,7 +2,8 @@
    itself gives the main thread's stack, 0x7FFF0000 to 0x80000000.
 
    `__global_pointer$` isn't defined, so that no linker makes accesses relative to x3: it is 0 in
-   each thread. Debug sections other than line tables are dropped, since nothing reads them. */
+   each thread. Debug sections other than line tables and the texts that these name are dropped,
+   since nothing reads them; the line tables of GCC and clang name texts of .debug_line_str alone. */
 OUTPUT_ARCH(riscv)
 ENTRY(_start)
 

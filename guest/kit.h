@@ -50,7 +50,7 @@ struct backoff {
     uint32_t turns;
 };
 
-enum { SHORTEST_PAUSE = 4, LONGEST_PAUSE = 64 };
+enum { SHORTEST_PAUSE = 4, LONGEST_PAUSE = 16 };
 
 static inline void back_off(struct backoff *backoff)
 {

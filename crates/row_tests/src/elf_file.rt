@@ -7,14 +7,40 @@ use std::alloc::Global;
 #[derive(Clone, Copy)]
 pub enum Form<'a> {
     /// No sections, and so many bytes of data.
-    Plain { room: u32 },
-    /// A symbol for each label, and where it is given the section `.debug_line`.
-    Named { lines: Option<&'a [u8]> },
+    Plain {
+        room: u32,
+    },
+    /// A symbol for each label, and sections of line tables.
+    Named {
+        debug: &'a [(DebugSection, &'a [u8])],
+    },
+}
+
+/// A section of line tables, or of the texts that they name.
+#[derive(Clone, Copy)]
+pub enum DebugSection {
+    Line,
+    Str,
+    LineStr,
+}
+
+impl DebugSection {
+    /// Where its name stands among those of the sections.
+    fn name(self) -> u32 {
+        match self {
+            DebugSection::Line => 27,
+            DebugSection::Str => 39,
+            DebugSection::LineStr => 50,
+        }
+    }
 }
 
 impl Form<'_> {
     /// The plain form with as much data as an example program usually has.
     pub const PLAIN: Form<'static> = Form::Plain { room: USUAL_ROOM };
+
+    /// The named form without line tables.
+    pub const NAMED: Form<'static> = Form::Named { debug: &[] };
 }
 
 /// Where the code stands in a file: behind the ELF header and two program headers.
@@ -26,7 +52,8 @@ const USUAL_ROOM: u32 = 2048;
 const HEADER_SIZE: u64 = 64;
 
 /// The names of the sections, each ended by a zero byte.
-const SECTION_NAMES: &[u8; 39] = b"\0.symtab\0.strtab\0.shstrtab\0.debug_line\0";
+const SECTION_NAMES: &[u8; 66] =
+    b"\0.symtab\0.strtab\0.shstrtab\0.debug_line\0.debug_str\0.debug_line_str\0";
 
 /// The types of sections.
 const PROGRAM_BYTES: u32 = 1;
@@ -185,23 +212,27 @@ impl Writer {
         &mut self,
         symbols: &[u8],
         names: &[u8],
-        lines: Option<&[u8]>,
+        debug: &[(DebugSection, &[u8])],
+        count: u16,
     ) -> Result<(), AssemblyError> {
-        let table = if lines.is_some() { 320 } else { 256 };
+        let table = HEADER_SIZE * u64::from(count);
         let first = (self.bytes.len() as u64)
             .checked_add(table)
             .ok_or(AssemblyError::TooLong)?;
         self.longs(&[0, 0, 0, 0, 0, 0, 0, 0])?;
         let second = self.section(1, SYMBOL_TABLE, first, symbols)?;
         let third = self.section(9, STRINGS, second, names)?;
-        let fourth = self.section(17, STRINGS, third, SECTION_NAMES)?;
-        if let Some(lines) = lines {
-            self.section(27, PROGRAM_BYTES, fourth, lines)?;
+        let mut next = self.section(17, STRINGS, third, SECTION_NAMES)?;
+        for (section, bytes) in debug {
+            next = self.section(section.name(), PROGRAM_BYTES, next, bytes)?;
         }
         self.all(symbols)?;
         self.all(names)?;
         self.all(SECTION_NAMES)?;
-        self.all(lines.unwrap_or(&[]))
+        for (_, bytes) in debug {
+            self.all(bytes)?;
+        }
+        Ok(())
     }
 }
 
@@ -211,15 +242,18 @@ fn named(
     words: &[u32],
     labels: &[Label<'_>],
     entry: u32,
-    lines: Option<&[u8]>,
+    debug: &[(DebugSection, &[u8])],
 ) -> Result<Writer, AssemblyError> {
     let (names, table) = symbols(alloc, labels, address(words.len())?)?;
     let mut writer = Writer {
         bytes: Vec::new(alloc),
     };
-    let count = if lines.is_some() { 5 } else { 4 };
+    let count = u16::try_from(debug.len())
+        .ok()
+        .and_then(|count| count.checked_add(4))
+        .ok_or(AssemblyError::TooLong)?;
     writer.program(words, entry, count, USUAL_ROOM)?;
-    writer.sections(&table.bytes, &names.bytes, lines)?;
+    writer.sections(&table.bytes, &names.bytes, debug, count)?;
     Ok(writer)
 }
 
@@ -239,7 +273,7 @@ pub fn file(
             writer.program(words, entry, 0, *room)?;
             writer
         }
-        Form::Named { lines } => named(alloc, words, labels, entry, *lines)?,
+        Form::Named { debug } => named(alloc, words, labels, entry, *debug)?,
     };
     let Writer { bytes } = writer;
     Ok(bytes)

@@ -18,5 +18,5 @@ mod numbers;
 mod rows;
 
 pub use assembler::assemble;
-pub use elf_file::Form;
+pub use elf_file::{DebugSection, Form};
 pub use error::AssemblyError;

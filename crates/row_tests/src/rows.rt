@@ -1,6 +1,8 @@
 // Runs of the command over files and sinks in memory.
 mod closure;
+mod counted;
 mod endings;
+mod line_tables;
 mod made;
 mod named;
 mod plans;

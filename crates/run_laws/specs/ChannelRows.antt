@@ -101,6 +101,31 @@ two_readers =
 abbrev pub kept_by_readers : List KeptLock
 kept_by_readers = record { addr = 0x1000008; read = true } ∷ []
 
+-- A lock that is taken twice round another and given back once, before a write.
+abbrev pub twice_locked_scripts : List (List Line)
+twice_locked_scripts =
+    (at 0 (Begin ∷ []) ∷ at 3 (Create 1 ∷ []) ∷ at 12 (Lock 0x1000008 false ∷ []) ∷ at 21 (Lock 0x1000010 false ∷ []) ∷ at 30 (Lock 0x1000008 false ∷ [])
+    ∷ at 39 (Unlock 0x1000008 false ∷ []) ∷ at 48 (write 0x100b8 0x1000000 8 ∷ []) ∷ at 50 (End ∷ []) ∷ [])
+    ∷ calls_once (write 0x100e4 0x1000000 8 ∷ [])
+    ∷ []
+
+abbrev pub twice_locked : List Entry
+twice_locked =
+    noted 0 0 1 0 (Attach (label 0 1 0))
+    ∷ makes 0 0 2 0 4 (Begin ∷ Create 1 ∷ []) []
+    ∷ makes 0 0 3 0 9 (Lock 0x1000008 false ∷ []) []
+    ∷ makes 0 0 4 0 9 (Lock 0x1000010 false ∷ []) []
+    ∷ makes 0 0 5 0 9 (Lock 0x1000008 false ∷ []) []
+    ∷ makes 0 0 6 0 9 (Unlock 0x1000008 false ∷ []) []
+    ∷ makes 0 0 7 0 11 (write 0x100b8 0x1000000 8 ∷ End ∷ []) (check 0 0 0x200ff 2 zeros (Some 0) ∷ [])
+    ∷ noted 1 0 8 1 (Attach (label 1 1 0))
+    ∷ makes 1 0 9 1 11 (Begin ∷ write 0x100e4 0x1000000 8 ∷ End ∷ []) (check 1 0 0x101ff 1 (0x200ff ∷ 0 ∷ 0 ∷ 0 ∷ []) (Some 1) ∷ [])
+    ∷ []
+
+-- the locks that are left, in the order in which they were taken
+abbrev pub first_and_second : List KeptLock
+first_and_second = record { addr = 0x1000008; read = false } ∷ record { addr = 0x1000010; read = false } ∷ []
+
 -- A joined thread: the main thread creates another, which writes; then it joins it and reads.
 abbrev pub two_turns_apart : List Turn
 two_turns_apart = record { tid = 0; steps = 4 } ∷ record { tid = 1; steps = 11 } ∷ []

@@ -3,7 +3,7 @@
 ghost use Rattle.std.specs.Prelude.{[], ◌∷◌, true, false, Some};
 ghost use Rattle.run_laws.specs.Faithful.{OneByOne};
 ghost use Rattle.run_laws.specs.Rows.{Shows, no_rules, nothing, only, side, usual};
-ghost use Rattle.run_laws.specs.ChannelRows.{cleared, cleared_scripts, destroyed, destroyed_scripts, joined, joined_scripts, kept_by_readers, read_lock, read_lock_scripts, two_readers, two_readers_scripts, two_turns_apart};
+ghost use Rattle.run_laws.specs.ChannelRows.{cleared, cleared_scripts, destroyed, destroyed_scripts, first_and_second, joined, joined_scripts, kept_by_readers, read_lock, read_lock_scripts, twice_locked, twice_locked_scripts, two_readers, two_readers_scripts, two_turns_apart};
 
 /// What was released before a Destroy isn't acquired after it, on either channel: one report of the read and the write.
 pub fn destroy_ends_both_channels()
@@ -26,6 +26,14 @@ pub fn readers_hear_no_readers()
     ensures { Shows OneByOne usual [] two_readers_scripts two_readers no_rules
         (only (record (side 1 false false 0x1000000 8 (Some (0x100c0 ∷ []))) { locks = kept_by_readers })
         (record (side 0 false false 0x1000000 8 (Some (0x1004c ∷ []))) { locks = kept_by_readers })) }
+{}
+
+/// Of a lock that is kept twice, the one that was taken last is given back: one report, which tells the locks that are left in
+/// the order in which they were taken.
+pub fn last_equal_lock_goes()
+    ensures { Shows OneByOne usual [] twice_locked_scripts twice_locked no_rules
+        (only (side 1 false false 0x1000000 8 (Some (0x100e4 ∷ [])))
+        (record (side 0 false false 0x1000000 8 (Some (0x100b8 ∷ []))) { locks = first_and_second })) }
 {}
 
 /// A thread that joins another knows what that one did: no report.

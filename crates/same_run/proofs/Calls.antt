@@ -49,8 +49,9 @@ module _ (words : List (String Global)) (before after reads more : ℕ) (failed 
 
   pub same_call :
       (told known : Option (List (List ℕ × List ℕ))) (a : IsDone (call_of words told before after failed) out_old out_new err_old err_new status f) (b : IsDone (call_of words known reads more missed) out_old out_other err_old err_other code other) →
-      a.bytes ≡ b.bytes → a.run.rules ≡ b.run.rules → (out_new ≡ out_other) × (err_new ≡ err_other) × (status ≡ code)
+      a.bytes ≡ b.bytes → a.run.rules ≡ b.run.rules → (f ≡ other) × (out_new ≡ out_other) × (err_new ≡ err_other) × (status ≡ code)
   same_call told known a b bytes rules = (
+    finished,
     a.output ∙ (ap (appended out_old) (texts out_text) ∙ sym b.output),
     a.text ∙ (ap (appended err_old) (texts err_text) ∙ sym b.text),
     a.status_is ∙ (ap status_of finished ∙ sym b.status_is),
@@ -75,7 +76,7 @@ module _ (words : List (String Global)) (before after reads more : ℕ) (failed 
           ∙ ap₂ (λ (bs : List ℕ) (g : Finished). write b.request.task bs g) bytes finished
 
   pub same_over_files : (files : List (List ℕ × List ℕ)) → IsDone (call_of words (Some files) before after failed) out_old out_new err_old err_new status f → IsDone (call_of words (Some files) reads more missed) out_old out_other err_old err_other code other →
-      (out_new ≡ out_other) × (err_new ≡ err_other) × (status ≡ code)
+      (f ≡ other) × (out_new ≡ out_other) × (err_new ≡ err_other) × (status ≡ code)
   same_over_files files a b =
       let request = same_request (Some files) (Some files) a b in
       same_call (Some files) (Some files) a b

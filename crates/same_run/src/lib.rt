@@ -4,7 +4,7 @@
 //! executable file, `step_engine` what a run of it is (`IsRun`), and `tsanrun_cli` what a call of the tool leaves
 //! (`IsDone`). The functions do nothing: the contract of each is a law. `machine_law` says that the machine of a file is
 //! one of which `one_history` tells, `same_run_law` that two runs are the same in all that they leave, and
-//! `same_call_law` that two calls write the same bytes.
+//! `same_call_law` that two calls keep the same run and write the same bytes.
 #![tactic(auto)]
 
 ghost use Rattle.std.specs.Prelude.{◌≡◌, ◌≤◌, ℕ, Bool, List, Option, Some};
@@ -31,16 +31,16 @@ pub fn same_run_law()
         IsRun file limits plan meets f → IsRun file limits plan meets other → f ≡ other }
 {}
 
-/// Two calls that are done, with the same words and with the same bytes on their sinks before, leave the same bytes on
-/// each sink and the same status: where both have read the same executable and the same rules, and so where both have
+/// Two calls that are done, with the same words and with the same bytes on their sinks before, keep the same run, and
+/// leave the same bytes on each sink and the same status: where both have read the same executable and the same rules, and so where both have
 /// the same files.
 pub fn same_call_law()
     ensures by_bytes { (words : List (String Global)) (told known : Option (List (List ℕ × List ℕ))) (before after reads more : ℕ) (failed missed : List ℕ) (out_old out_new out_other err_old err_new err_other : Option (List ℕ)) (status code : ℕ) (f other : Finished) →
         (a : IsDone (call_of words told before after failed) out_old out_new err_old err_new status f) →
         (b : IsDone (call_of words known reads more missed) out_old out_other err_old err_other code other) →
-        a.bytes ≡ b.bytes → a.run.rules ≡ b.run.rules → (out_new ≡ out_other) × (err_new ≡ err_other) × (status ≡ code) }
+        a.bytes ≡ b.bytes → a.run.rules ≡ b.run.rules → (f ≡ other) × (out_new ≡ out_other) × (err_new ≡ err_other) × (status ≡ code) }
     ensures by_files { (words : List (String Global)) (files : List (List ℕ × List ℕ)) (before after reads more : ℕ) (failed missed : List ℕ) (out_old out_new out_other err_old err_new err_other : Option (List ℕ)) (status code : ℕ) (f other : Finished) →
         IsDone (call_of words (Some files) before after failed) out_old out_new err_old err_new status f →
         IsDone (call_of words (Some files) reads more missed) out_old out_other err_old err_other code other →
-        (out_new ≡ out_other) × (err_new ≡ err_other) × (status ≡ code) }
+        (f ≡ other) × (out_new ≡ out_other) × (err_new ≡ err_other) × (status ≡ code) }
 {}

@@ -1,20 +1,19 @@
 -- The ends of names, from the last offset of a string table down.
-use Rattle.std.proofs.Common.{◌≡◌, ℕ, zero, suc, ◌+◌, ◌-◌, ◌<◌, ◌≤◌, Bool, true, false, leb, ltb, eqb, ◌&&◌, ◌||◌, not, if◌then◌else◌, List, [], ◌∷◌, ◌++◌, length, take, drop, get_or, Option, Some, None, refl, sym, ap, ◌∙◌, subst, inl, inr, ◌⊎◌, ◌≢◌, add-one, drop-cons, arith}
+use Rattle.std.proofs.Common.{◌≡◌, ℕ, zero, suc, ◌+◌, ◌-◌, ◌<◌, ◌≤◌, Bool, true, false, leb, ltb, eqb, ◌&&◌, ◌||◌, not, if◌then◌else◌, List, [], ◌∷◌, ◌++◌, length, take, drop, get_or, Option, Some, None, refl, sym, ap, ◌∙◌, subst, inl, inr, add-one, drop-cons, arith}
 use Rattle.std.specs.Prelude.{unwrap_or}
 use Rattle.std.specs.Cmp.{both_ways}
 use Rattle.std.specs.List.{list_any}
 use Rattle.std.specs.Option.{option_map}
 use Rattle.std.specs.Str.{IsUtf8, is_utf8, IsCharBoundary}
-use Rattle.std.proofs.lemmas.Bool.{cases_Bool, and_parts, and_from, ne_eqb, lt-ltb, le-ltb, ltb-true, ltb-false, leb-true, le-leb, eqb-true, eqb-false, false_from_ne_true}
+use Rattle.std.proofs.lemmas.Bool.{cases_Bool, and_parts, and_from, eq-eqb, ne_eqb, lt-ltb, le-ltb, ltb-true, ltb-false, leb-true, false_from_ne_true}
 use Rattle.std.proofs.lemmas.List.{length-append, length-drop, length-take, take_at, drop_at, drop-drop, drop_all, take-append-drop, get_or-take, get_or-drop}
+use Rattle.std.proofs.lemmas.List.Folds.{list_any_at}
 use Rattle.std.proofs.lemmas.Str.{IsUtf8-append, IsUtf8-nil, IsUtf8-take, IsUtf8-drop, IsUtf8-from_is_utf8, is_utf8-from_IsUtf8, IsCharBoundary-start}
 use Rattle.std.proofs.Math.Bool.{and-false}
-use Rattle.std.proofs.Math.ListN.{get_or-append}
-use Rattle.std.proofs.Math.Seq.{get_or-append_seam}
 use Rattle.symbol_lines.specs.Reading.{◌>>=◌, text_at}
 use Rattle.symbol_lines.specs.Lines.{is_shown}
-use Rattle.symbol_lines.specs.Symbols.{name_at}
-use Rattle.symbol_lines.specs.NameEnds.{shown_len, name_len, name_end, place_in, HasEnds, IsBoundary}
+use Rattle.symbol_lines.specs.Paths.{has_text}
+use Rattle.symbol_lines.specs.NameEnds.{shown_len, name_len, name_end, place_in, HasEnds, HasTextsBelow, IsBoundary, shown_at}
 
 -- ---- bytes in front of a text
 
@@ -221,7 +220,7 @@ end_past strings boundary le = no_place strings ∙ sym (end_none strings bounda
 
 -- ---- a name by its end
 
-name_by : (strings : List ℕ) (offset : ℕ) (o : Option (List ℕ × List ℕ)) (end : ℕ) → text_at (drop offset strings) ≡ o → Some end ≡ option_map (λ m. offset + m) (shown_len o) → (offset ≤ end) × (end ≤ length strings) × IsUtf8 (take (end - offset) (drop offset strings)) × (take (end - offset) (drop offset strings) ≡ name_at strings offset)
+name_by : (strings : List ℕ) (offset : ℕ) (o : Option (List ℕ × List ℕ)) (end : ℕ) → text_at (drop offset strings) ≡ o → Some end ≡ option_map (λ m. offset + m) (shown_len o) → (offset ≤ end) × (end ≤ length strings) × IsUtf8 (take (end - offset) (drop offset strings)) × (Some (take (end - offset) (drop offset strings)) ≡ shown_at strings offset)
 name_by strings offset None end e h = absurd (cc)
 name_by strings offset (Some t) end e h =
     elim (cases_Bool (is_shown t.0)) [
@@ -232,11 +231,11 @@ name_by strings offset (Some t) end e h =
           let size : end - offset ≡ length t.0 = omega arith in
           let text : take (end - offset) (drop offset strings) ≡ t.0 = rw size (sym is.0) in
           let utf8 = (and_parts (not (list_any (λ b. ltb b 0x20) t.0)) (is_utf8 t.0) here).1 in
-          (omega arith, omega (arith, is.1), subst IsUtf8 (sym text) (IsUtf8-from_is_utf8 t.0 utf8), text ∙ rw (e, here) refl)
+          (omega arith, omega (arith, is.1), subst IsUtf8 (sym text) (IsUtf8-from_is_utf8 t.0 utf8), ap Some text ∙ rw (e, here) refl)
       | inr away ↦ absurd (let k = rw away at h in cc)
     ]
 
-pub name_found : (strings : List ℕ) (offset end : ℕ) → Some end ≡ name_end strings offset → (offset ≤ end) × (end ≤ length strings) × IsUtf8 (take (end - offset) (drop offset strings)) × (take (end - offset) (drop offset strings) ≡ name_at strings offset)
+pub name_found : (strings : List ℕ) (offset end : ℕ) → Some end ≡ name_end strings offset → (offset ≤ end) × (end ≤ length strings) × IsUtf8 (take (end - offset) (drop offset strings)) × (Some (take (end - offset) (drop offset strings)) ≡ shown_at strings offset)
 name_found strings offset end h = name_by strings offset (text_at (drop offset strings)) end refl h
 
 -- what is read from the table of ends
@@ -260,3 +259,39 @@ pub record Finds (strings ends : List ℕ) (offset boundary : ℕ) : Type 0 wher
   pub found : HasEnds strings ends
   pub all : offset + length ends ≡ length strings
   pub next : 0 < offset → IsBoundary strings (offset - 1) boundary
+
+-- ---- which texts have an end
+
+any_behind : (p : ℕ → Bool) (xs : List ℕ) (m : ℕ) → list_any p xs ≡ false → list_any p (drop m xs) ≡ false
+any_behind p xs zero h = h
+any_behind p [] (suc m) h = refl
+any_behind p (x ∷ xs) (suc m) h = any_behind p xs m (rest (p x) h)
+  where
+    rest : (b : Bool) → (b || list_any p xs) ≡ false → list_any p xs ≡ false
+    rest true e = absurd (cc)
+    rest false e = e
+
+pub none_at_end : (section : List ℕ) → has_text section (length section) ≡ false
+none_at_end section = let none : drop (length section) section ≡ [] = drop_all (length section) section (omega arith) in rw none refl
+
+pub none_before : (section : List ℕ) (n : ℕ) → n < length section → (get_or section n 0 ≡ 0 → ⊥) → has_text section (n + 1) ≡ false → has_text section n ≡ false
+none_before section n within not_zero none =
+    let not_here : eqb (get_or section n 0) 0 ≡ false = ne_eqb _ _ not_zero in
+    ap (list_any (λ b. eqb b 0)) (front_is section n within) ∙ rw not_here none
+
+pub texts_below : (section : List ℕ) (end : ℕ) → end ≤ length section → has_text section end ≡ false → (0 < end → get_or section (end - 1) 0 ≡ 0) → HasTextsBelow section end
+texts_below section end within none last = record {
+  each = λ offset. elim (cases_Bool (ltb offset end)) [
+    | inl below ↦
+        let lt = ltb-true offset end below in
+        let same : offset + (end - 1 - offset) ≡ end - 1 = omega arith in
+        let byte : get_or (drop offset section) (end - 1 - offset) 0 ≡ 0 = get_or-drop offset section (end - 1 - offset) 0 ∙ rw same (last (omega arith)) in
+        let here : eqb (get_or (drop offset section) (end - 1 - offset) 0) 0 ≡ true = eq-eqb _ _ byte in
+        below ∙ sym (list_any_at (λ b. eqb b 0) (drop offset section) (end - 1 - offset) 0 (omega (arith, length-drop offset section)) here)
+    | inr not_below ↦
+        let le = ltb-false offset end not_below in
+        let same : end + (offset - end) ≡ offset = omega arith in
+        let behind : drop (offset - end) (drop end section) ≡ drop offset section = drop-drop (offset - end) end section ∙ ap (λ n. drop n section) same in
+        not_below ∙ sym (ap (list_any (λ b. eqb b 0)) (sym behind) ∙ any_behind (λ b. eqb b 0) (drop end section) (offset - end) none)
+  ];
+}

@@ -9,7 +9,7 @@ use Rattle.symbol_lines.specs.declared.spans.Span.{Span}
 use Rattle.symbol_lines.specs.declared.rows.Row.{Row}
 use Rattle.symbol_lines.specs.Spans.{better, owner_among}
 use Rattle.symbol_lines.specs.Kept.{KeptSequence}
-use Rattle.symbol_lines.specs.Lines.{Lines, Position, unknown, has_place, known, row_at, row_from, position_in, position_of, position_at}
+use Rattle.symbol_lines.specs.Lines.{FileList, Lines, Position, unknown, has_place, known, row_at, row_from, position_in, position_of, position_at}
 use Rattle.symbol_lines.specs.KeptLines.{kept_lines, resolved, numbered, text_or_none}
 use Rattle.symbol_lines.proofs.KeptRows.{row_at-kept, row_at-push, row_from-append}
 
@@ -60,7 +60,7 @@ pub record IsFirstItem (k : ℕ) (ss : List KeptSequence) (p i : ℕ) : Type 0 w
   pub index : ℕ
   pub is : i ≡ k + index
   pub in_range : index < length ss
-  pub found : (d : KeptSequence) (ts : List (List (List ℕ))) → find (has_place p) (map (resolved ts) ss) ≡ Some (resolved ts (get_or ss index d))
+  pub found : (d : KeptSequence) (ts : List FileList) → find (has_place p) (map (resolved ts) ss) ≡ Some (resolved ts (get_or ss index d))
 
 pub first_found : (k : ℕ) (ss : List KeptSequence) (p i : ℕ) → first_item k ss p ≡ Some i → IsFirstItem k ss p i
 first_found k [] p i h = absurd (cc)
@@ -74,7 +74,7 @@ first_found k (s ∷ ss) p i h =
           record { index = suc g.index; is = omega (arith, g.is); in_range = omega (arith, g.in_range); found = λ d ts. rw away (g.found d ts) }
     ]
 
-pub none_found : (k : ℕ) (ss : List KeptSequence) (p : ℕ) (ts : List (List (List ℕ))) → first_item k ss p ≡ None → find (has_place p) (map (resolved ts) ss) ≡ None
+pub none_found : (k : ℕ) (ss : List KeptSequence) (p : ℕ) (ts : List FileList) → first_item k ss p ≡ None → find (has_place p) (map (resolved ts) ss) ≡ None
 none_found k [] p ts h = refl
 none_found k (s ∷ ss) p ts h =
     elim (cases_Bool (leb s.start p && ltb p s.end)) [
@@ -163,11 +163,11 @@ item_below view xs p o h =
     let g = placed (map view xs) p o h in
     omega (arith, g.is, g.in_range, length-map xs view)
 
-pub missed : (ss : List KeptSequence) (p : ℕ) (ts : List (List (List ℕ))) → None ≡ owner_among (numbered 0 ss) p → unknown ≡ position_at (map (resolved ts) ss) p
+pub missed : (ss : List KeptSequence) (p : ℕ) (ts : List FileList) → None ≡ owner_among (numbered 0 ss) p → unknown ≡ position_at (map (resolved ts) ss) p
 unfolding position_at
 missed ss p ts h = rw (none_found 0 ss p ts (no_item (first_item 0 ss p) (h ∙ owner_is_first 0 ss p))) refl
 
-pub found_position : {X : Type 0} (view : X → KeptSequence) (xs : List X) (p : ℕ) (ts : List (List (List ℕ))) (o : Owner) (x : X) → Some o ≡ owner_among (numbered 0 (map view xs)) p → x ≡ get_or xs o.item x
+pub found_position : {X : Type 0} (view : X → KeptSequence) (xs : List X) (p : ℕ) (ts : List FileList) (o : Owner) (x : X) → Some o ≡ owner_among (numbered 0 (map view xs)) p → x ≡ get_or xs o.item x
     → position_at (map (resolved ts) (map view xs)) p ≡ position_in (resolved ts (view x)) (row_at (view x).rows p)
 unfolding position_at
 found_position view xs p ts o x h is =

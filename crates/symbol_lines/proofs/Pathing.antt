@@ -12,9 +12,10 @@ use Rattle.std.proofs.lemmas.Option.{slice_get-map}
 use Rattle.std.proofs.lemmas.Str.{IsUtf8-append, IsUtf8-take, IsUtf8-drop, IsUtf8-from_ascii, IsUtf8-from_is_utf8, is_utf8-from_IsUtf8, IsCharBoundary-before_ascii, IsCharBoundary-after_ascii}
 use Rattle.std.proofs.lemmas.Str.Ascii.{IsAscii-cons}
 use Rattle.std.proofs.Math.Seq.{get_or-append_seam}
-use Rattle.symbol_lines.specs.Program.{FileEntry}
+use Rattle.symbol_lines.specs.Reading.{◌>>=◌}
+use Rattle.symbol_lines.specs.Paths.{TextSections, Entry, entry_text}
 use Rattle.symbol_lines.specs.Lines.{is_shown, path_of, shown_path}
-use Rattle.symbol_lines.specs.KeptLines.{shown_or_none, named_in, text_in}
+use Rattle.symbol_lines.specs.KeptLines.{shown_or_none, shown_entry, path_in, text_in}
 
 -- ---- a text around '/' is UTF-8 where both parts are
 
@@ -70,39 +71,56 @@ is_shown-joined d n =
 
 -- ---- the text of a file
 
-alone : (dirs : List (Option (List ℕ))) (f : FileEntry) (s : Bool) → (eqb f.directory 0 || eqb (get_or f.name 0 0) 47) ≡ true → named_in dirs f (if s then Some f.name else None) ≡ (if s then f.name else [])
-alone dirs f true h = rw h refl
-alone dirs f false h = refl
+-- the test that a path stands alone
+abbrev is_alone : ℕ → List ℕ → Bool
+is_alone n path = eqb n 0 || eqb (get_or path 0 0) 47
 
-behind_one : (d n : List ℕ) (s t : Bool) (dirs : List (Option (List ℕ))) (f : FileEntry) → (eqb f.directory 0 || eqb (get_or f.name 0 0) 47) ≡ false → slice_get dirs (f.directory - 1) ≡ Some (if s then Some d else None)
-    → named_in dirs f (if t then Some n else None) ≡ (if (s && t) then d ++ 47 ∷ n else [])
-behind_one d n true true dirs f h e = rw (h, e) refl
-behind_one d n true false dirs f h e = refl
-behind_one d n false true dirs f h e = rw (h, e) refl
-behind_one d n false false dirs f h e = refl
+alone : (first : ℕ) (dirs : List (Option (List ℕ))) (n : ℕ) (path : List ℕ) (s : Bool) → is_alone n path ≡ true → path_in first dirs n (if s then Some path else None) ≡ (if s then path else [])
+alone first dirs n path true h = rw h refl
+alone first dirs n path false h = refl
 
-behind_none : (n : List ℕ) (t : Bool) (dirs : List (Option (List ℕ))) (f : FileEntry) → (eqb f.directory 0 || eqb (get_or f.name 0 0) 47) ≡ false → slice_get dirs (f.directory - 1) ≡ None
-    → named_in dirs f (if t then Some n else None) ≡ []
-behind_none n true dirs f h e = rw (h, e) refl
-behind_none n false dirs f h e = refl
+behind_one : (first : ℕ) (dirs : List (Option (List ℕ))) (n : ℕ) (d path : List ℕ) (s t : Bool) → is_alone n path ≡ false → slice_get dirs (n - first) ≡ Some (if s then Some d else None)
+    → path_in first dirs n (if t then Some path else None) ≡ (if (s && t) then d ++ 47 ∷ path else [])
+behind_one first dirs n d path true true h e = rw (h, e) refl
+behind_one first dirs n d path true false h e = refl
+behind_one first dirs n d path false true h e = rw (h, e) refl
+behind_one first dirs n d path false false h e = refl
 
-behind_is : (dirs : List (List ℕ)) (f : FileEntry) (o : Option (List ℕ)) → (eqb f.directory 0 || eqb (get_or f.name 0 0) 47) ≡ false → slice_get dirs (f.directory - 1) ≡ o
-    → text_in (map shown_or_none dirs) f ≡ shown_path (option_map (λ d. d ++ 47 ∷ f.name) o)
-behind_is dirs f None h e =
-    let found : slice_get (map shown_or_none dirs) (f.directory - 1) ≡ None = slice_get-map shown_or_none dirs (f.directory - 1) ∙ ap (option_map shown_or_none) e in
-    behind_none f.name (is_shown f.name) (map shown_or_none dirs) f h found
-behind_is dirs f (Some d) h e =
-    let found : slice_get (map shown_or_none dirs) (f.directory - 1) ≡ Some (shown_or_none d) = slice_get-map shown_or_none dirs (f.directory - 1) ∙ ap (option_map shown_or_none) e in
-    behind_one d f.name (is_shown d) (is_shown f.name) (map shown_or_none dirs) f h found
-    ∙ ap (λ (s : Bool). if s then d ++ 47 ∷ f.name else []) (sym (is_shown-joined d f.name))
+behind_none : (first : ℕ) (dirs : List (Option (List ℕ))) (n : ℕ) (path : List ℕ) (t : Bool) → is_alone n path ≡ false → slice_get dirs (n - first) ≡ None → path_in first dirs n (if t then Some path else None) ≡ []
+behind_none first dirs n path true h e = rw (h, e) refl
+behind_none first dirs n path false h e = refl
 
-path_by : (dirs : List (List ℕ)) (f : FileEntry) (s : Bool) → (eqb f.directory 0 || eqb (get_or f.name 0 0) 47) ≡ s → text_in (map shown_or_none dirs) f ≡ shown_path (path_of dirs f)
-path_by dirs f true h = alone (map shown_or_none dirs) f (is_shown f.name) h ∙ rw h refl
-path_by dirs f false h = behind_is dirs f (slice_get dirs (f.directory - 1)) h refl ∙ rw h refl
+behind_bad : (first : ℕ) (dirs : List (Option (List ℕ))) (n : ℕ) (path : List ℕ) (t : Bool) → is_alone n path ≡ false → slice_get dirs (n - first) ≡ Some None → path_in first dirs n (if t then Some path else None) ≡ []
+behind_bad first dirs n path true h e = rw (h, e) refl
+behind_bad first dirs n path false h e = refl
 
-text_in-shown : (dirs : List (List ℕ)) (f : FileEntry) → text_in (map shown_or_none dirs) f ≡ shown_path (path_of dirs f)
-text_in-shown dirs f = path_by dirs f (eqb f.directory 0 || eqb (get_or f.name 0 0) 47) refl
+behind_told : (first : ℕ) (dirs : List (Option (List ℕ))) (n : ℕ) (path : List ℕ) (o : Option (List ℕ)) → is_alone n path ≡ false → slice_get dirs (n - first) ≡ Some (o >>= shown_or_none)
+    → path_in first dirs n (shown_or_none path) ≡ shown_path (option_map (λ d. d ++ 47 ∷ path) o)
+behind_told first dirs n path None h e = behind_bad first dirs n path (is_shown path) h e
+behind_told first dirs n path (Some d) h e =
+    behind_one first dirs n d path (is_shown d) (is_shown path) h e ∙ ap (λ (s : Bool). if s then d ++ 47 ∷ path else []) (sym (is_shown-joined d path))
 
-pub texts_in-shown : (dirs : List (List ℕ)) (fs : List FileEntry) → map (text_in (map shown_or_none dirs)) fs ≡ map (λ f. shown_path (path_of dirs f)) fs
-texts_in-shown dirs [] = refl
-texts_in-shown dirs (f ∷ fs) = (λ i. text_in-shown dirs f i ∷ texts_in-shown dirs fs i)
+behind_is : (texts : TextSections) (first : ℕ) (dirs : List Entry) (n : ℕ) (path : List ℕ) (o : Option Entry) → is_alone n path ≡ false → slice_get dirs (n - first) ≡ o
+    → path_in first (map (shown_entry texts) dirs) n (shown_or_none path) ≡ shown_path (option_map (λ d. d ++ 47 ∷ path) (o >>= entry_text texts))
+behind_is texts first dirs n path None h e =
+    behind_none first (map (shown_entry texts) dirs) n path (is_shown path) h (slice_get-map (shown_entry texts) dirs (n - first) ∙ ap (option_map (shown_entry texts)) e)
+behind_is texts first dirs n path (Some d) h e =
+    behind_told first (map (shown_entry texts) dirs) n path (entry_text texts d) h (slice_get-map (shown_entry texts) dirs (n - first) ∙ ap (option_map (shown_entry texts)) e)
+
+path_by : (texts : TextSections) (first : ℕ) (dirs : List Entry) (n : ℕ) (path : List ℕ) (s : Bool) → is_alone n path ≡ s
+    → path_in first (map (shown_entry texts) dirs) n (shown_or_none path)
+    ≡ shown_path (if s then Some path else option_map (λ d. d ++ 47 ∷ path) (slice_get dirs (n - first) >>= entry_text texts))
+path_by texts first dirs n path true h = alone first (map (shown_entry texts) dirs) n path (is_shown path) h
+path_by texts first dirs n path false h = behind_is texts first dirs n path (slice_get dirs (n - first)) h refl
+
+text_by : (texts : TextSections) (first : ℕ) (dirs : List Entry) (n : ℕ) (o : Option (List ℕ)) → path_in first (map (shown_entry texts) dirs) n (o >>= shown_or_none)
+    ≡ shown_path (o >>= λ path. if is_alone n path then Some path else option_map (λ d. d ++ 47 ∷ path) (slice_get dirs (n - first) >>= entry_text texts))
+text_by texts first dirs n None = refl
+text_by texts first dirs n (Some path) = path_by texts first dirs n path (is_alone n path) refl
+
+text_in-shown : (texts : TextSections) (first : ℕ) (dirs : List Entry) (f : Entry) → text_in texts first (map (shown_entry texts) dirs) f ≡ shown_path (path_of texts first dirs f)
+text_in-shown texts first dirs f = text_by texts first dirs f.directory (entry_text texts f)
+
+pub texts_in-shown : (texts : TextSections) (first : ℕ) (dirs : List Entry) (fs : List Entry) → map (text_in texts first (map (shown_entry texts) dirs)) fs ≡ map (λ f. shown_path (path_of texts first dirs f)) fs
+texts_in-shown texts first dirs [] = refl
+texts_in-shown texts first dirs (f ∷ fs) = (λ i. text_in-shown texts first dirs f i ∷ texts_in-shown texts first dirs fs i)

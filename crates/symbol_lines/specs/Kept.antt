@@ -4,7 +4,8 @@ use Rattle.std.specs.List.Sorted.{IsNonDecreasingBy}
 use Rattle.symbol_lines.specs.declared.spans.Span.{Span}
 use Rattle.symbol_lines.specs.declared.rows.Row.{Row}
 use Rattle.symbol_lines.specs.Symbols.{Symbol}
-use Rattle.symbol_lines.specs.Program.{FileEntry, Sequence, Operation, Machine}
+use Rattle.symbol_lines.specs.Paths.{Entry}
+use Rattle.symbol_lines.specs.Program.{Sequence, Operation, Machine}
 use Rattle.symbol_lines.specs.Program as program
 
 -- a function as a range that stands for the offset of its name; of two the later start counts
@@ -37,7 +38,7 @@ pub record KeptMachine : Type 0 where
   pub start : Option ℕ
   pub rows : List Row
   pub sequences : List KeptSequence
-  pub files : List FileEntry
+  pub files : List Entry
   pub unit : ℕ
 
 abbrev pub advance : ℕ → ℕ → KeptMachine → KeptMachine

@@ -2,6 +2,8 @@ pub mod FrameTexts
 pub mod FileTexts
 pub mod Spans
 pub mod Reading
+pub mod Paths
+pub mod Entries
 pub mod Program
 pub mod Views
 pub mod Lines
@@ -12,3 +14,4 @@ pub mod MachineViews
 pub mod Frames
 pub mod Found
 pub mod KeptLines
+pub mod SectionViews

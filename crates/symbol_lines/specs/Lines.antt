@@ -1,11 +1,12 @@
--- Files and lines of places, from the section .debug_line (DWARF 2 to 4, "Line Number Information").
+-- Files and lines of places, from the section .debug_line (DWARF 2 to 5, "Line Number Information").
 use Rattle.std.specs.Prelude.{ℕ, zero, suc, ◌-◌, ◌==◌, ◌||◌, ◌&&◌, not, Bool, nat_lt, nat_le, if◌then◌else◌, List, [], ◌∷◌, ◌++◌, length, map, find, slice_index, slice_get, unwrap_or, Option, Some, None}
 use Rattle.std.specs.List.{list_any}
 use Rattle.std.specs.Option.{option_map}
 use Rattle.std.specs.Str.{is_utf8}
 use Rattle.symbol_lines.specs.declared.rows.Row.{Row}
 use Rattle.symbol_lines.specs.Reading.{◌>>=◌, word_at, long_at, bytes_at}
-use Rattle.symbol_lines.specs.Program.{FileEntry, Unit, unit_at, Sequence, Machine, after_program}
+use Rattle.symbol_lines.specs.Paths.{TextSections, Entry, entry_text}
+use Rattle.symbol_lines.specs.Program.{Unit, unit_at, Sequence, Machine, after_program}
 
 -- a text that can be shown: UTF-8 without a byte below 0x20
 abbrev pub is_shown : List ℕ → Bool
@@ -15,35 +16,56 @@ is_shown text = not (list_any (λ b. nat_lt b 0x20) text) && is_utf8 text
 abbrev pub shown : List ℕ → List ℕ
 shown text = if is_shown text then text else []
 
--- A file's text: its name alone where it is in directory 0 or begins with '/', and else behind its directory, which is
--- counted from 1. None where there is no such directory.
-abbrev pub path_of : List (List ℕ) → FileEntry → Option (List ℕ)
-path_of directories f =
-    if f.directory == 0 || slice_index f.name 0 == 47 then Some f.name
-    else option_map (λ d. d ++ 47 ∷ f.name) (slice_get directories (f.directory - 1))
+-- The directories and files of a unit of version 2 to 4 are counted from 1, those of one of version 5 from 0.
+abbrev pub first_number : ℕ → ℕ
+first_number version = if nat_lt version 5 then 1 else 0
+
+-- the text of the directory of this number, which isn't 0
+abbrev pub directory_text : TextSections → ℕ → List Entry → ℕ → Option (List ℕ)
+directory_text s first directories n = slice_get directories (n - first) >>= entry_text s
+
+-- A file's text: its path alone where it is in directory 0 or begins with '/', and else behind its directory. None where
+-- there is no path or no such directory.
+abbrev pub path_of : TextSections → ℕ → List Entry → Entry → Option (List ℕ)
+path_of s first directories f =
+    entry_text s f >>= λ path.
+    if f.directory == 0 || slice_index path 0 == 47 then Some path
+    else option_map (λ d. d ++ 47 ∷ path) (directory_text s first directories f.directory)
 
 abbrev pub shown_path : Option (List ℕ) → List ℕ
 shown_path None = []
 shown_path (Some path) = shown path
 
--- A sequence with the texts of its unit's files, empty where one can't be shown
+-- the texts of a unit's files, empty where one can't be shown, and the number of the first one
+pub record FileList : Type 0 where
+  pub first : ℕ
+  pub texts : List (List ℕ)
+
+-- a sequence with the files of its unit
 pub record Lines : Type 0 where
   pub start : ℕ
   pub end : ℕ
   pub rows : List Row
-  pub files : List (List ℕ)
+  pub files : FileList
 
-abbrev pub with_files : List (List ℕ) → Sequence → Lines
+abbrev pub with_files : FileList → Sequence → Lines
 with_files files s = record { start = s.start; end = s.end; rows = s.rows; files = files }
 
--- the sequences of a unit whose program ended so
-abbrev pub lines_after : Unit → Option Machine → List Lines
-lines_after u None = []
-lines_after u (Some m) = map (with_files (map (λ f. shown_path (path_of u.directories f)) m.files)) m.sequences
+-- the files of a unit, and those that its program defines
+abbrev pub file_list : TextSections → Unit → List Entry → FileList
+file_list s u files = record {
+  first = first_number u.rules.version;
+  texts = map (λ f. shown_path (path_of s (first_number u.rules.version) u.directories f)) files;
+}
 
-abbrev pub lines_of : Option Unit → List Lines
-lines_of None = []
-lines_of (Some u) = lines_after u (after_program u)
+-- the sequences of a unit whose program ended so
+abbrev pub lines_after : TextSections → Unit → Option Machine → List Lines
+lines_after s u None = []
+lines_after s u (Some m) = map (with_files (file_list s u m.files)) m.sequences
+
+abbrev pub lines_of : TextSections → Option Unit → List Lines
+lines_of s None = []
+lines_of s (Some u) = lines_after s u (after_program u)
 
 -- The bytes of the next unit behind its length, and the bytes after it. None where a length is reserved or reaches past
 -- the section, or nothing is left. Of a unit with a length of 64 bits nothing is read.
@@ -56,12 +78,13 @@ next_unit bs =
     else bytes_at len.0 len.1
 
 -- the sequences of all units in reading order; so many bytes have at most so many units
-unfoldable pub lines_in : ℕ → List ℕ → List Lines
-lines_in zero bs = []
-lines_in (suc n) bs = unwrap_or (next_unit bs >>= λ unit. Some (lines_of (unit_at unit.0) ++ lines_in n unit.1)) []
+unfoldable pub lines_in : TextSections → ℕ → List ℕ → List Lines
+lines_in s zero bs = []
+lines_in s (suc n) bs =
+    unwrap_or (next_unit bs >>= λ unit. Some (lines_of s (unit_at s unit.0) ++ lines_in s n unit.1)) []
 
-unfoldable pub sequences : List ℕ → List Lines
-sequences section = lines_in (length section) section
+unfoldable pub sequences : TextSections → List ℕ → List Lines
+sequences s section = lines_in s (length section) section
 
 -- the last row at or below a place
 abbrev pub row_from : Option Row → List Row → ℕ → Option Row
@@ -83,10 +106,9 @@ pub record Position : Type 0 where
 abbrev pub unknown : Position
 unknown = record { file = []; line = 0 }
 
--- the text of the file of this number, counted from 1
-abbrev pub file_text : List (List ℕ) → ℕ → Option (List ℕ)
-file_text files zero = None
-file_text files (suc n) = slice_get files n
+-- the text of the file of this number
+abbrev pub file_text : FileList → ℕ → Option (List ℕ)
+file_text files n = if nat_lt n files.first then None else slice_get files.texts (n - files.first)
 
 abbrev pub known : ℕ → Option (List ℕ) → Position
 known line None = unknown

@@ -1,8 +1,14 @@
--- Where the names in a string table end.
+-- Where the texts in a section of texts end.
 use Rattle.std.specs.Prelude.{◌≡◌, ℕ, ◌+◌, ◌-◌, ◌<◌, ◌≤◌, nat_lt, if◌then◌else◌, List, length, drop, slice_index, Option, Some, None}
 use Rattle.std.specs.Option.{option_map}
-use Rattle.symbol_lines.specs.Reading.{text_at}
+use Rattle.symbol_lines.specs.Reading.{◌>>=◌, text_at}
+use Rattle.symbol_lines.specs.Paths.{has_text, section_text}
 use Rattle.symbol_lines.specs.Lines.{is_shown}
+use Rattle.symbol_lines.specs.KeptLines.{shown_or_none}
+
+-- the text at an offset of a section, if it has an end there and can be shown
+abbrev pub shown_at : List ℕ → ℕ → Option (List ℕ)
+shown_at section offset = section_text section offset >>= shown_or_none
 
 -- how long the text is, if it can be shown
 abbrev pub shown_len : Option (List ℕ × List ℕ) → Option ℕ
@@ -32,3 +38,12 @@ pub record IsBoundary (strings : List ℕ) (offset boundary : ℕ) : Type 0 wher
   pub within : boundary ≤ length strings
   pub inside : (k : ℕ) → offset < k → k < boundary → 128 ≤ slice_index strings k
   pub first : boundary < length strings → 128 ≤ slice_index strings boundary → 192 ≤ slice_index strings boundary
+
+-- the ends are those of the texts at all offsets
+pub record HasNames (strings ends : List ℕ) : Type 0 where
+  pub found : HasEnds strings ends
+  pub all : length ends ≡ length strings
+
+-- the texts at the offsets below a place have an end, and no others
+pub record HasTextsBelow (section : List ℕ) (place : ℕ) : Type 0 where
+  pub each : (offset : ℕ) → nat_lt offset place ≡ has_text section offset

@@ -1,12 +1,15 @@
--- Line number programs (DWARF 2 to 4, "Line Number Information"): a unit's header, the operations of its program, and
+-- Line number programs (DWARF 2 to 5, "Line Number Information"): a unit's header, the operations of its program, and
 -- the rows that they give.
-use Rattle.std.specs.Prelude.{ℕ, zero, suc, ◌+◌, ◌-◌, ◌*◌, ◌/◌, ◌%◌, ◌^◌, ◌==◌, ◌||◌, nat_lt, nat_le, if◌then◌else◌, List, [], ◌∷◌, ◌++◌, length, slice_index, fold, Option, Some, None}
+use Rattle.std.specs.Prelude.{ℕ, zero, suc, ◌+◌, ◌-◌, ◌*◌, ◌/◌, ◌%◌, ◌^◌, ◌==◌, ◌&&◌, ◌||◌, nat_lt, nat_le, if◌then◌else◌, List, [], ◌∷◌, ◌++◌, length, slice_index, fold, Option, Some, None}
 use Rattle.std.specs.Option.{option_map}
 use Rattle.symbol_lines.specs.declared.rows.Row.{Row}
 use Rattle.symbol_lines.specs.Reading.{◌>>=◌, byte_at, half_at, word_at, long_at, bytes_at, uleb_at, sleb_at, text_at}
+use Rattle.symbol_lines.specs.Paths.{InUnit, TextSections, Entry}
+use Rattle.symbol_lines.specs.Entries.{entries_at}
 
 -- what a unit's header says of its operations
 pub record Rules : Type 0 where
+  pub version : ℕ
   pub minimum_length : ℕ
   -- modulo 2^64
   pub line_base : ℕ
@@ -15,26 +18,21 @@ pub record Rules : Type 0 where
   -- of opcode k the number at k - 1
   pub operand_counts : List ℕ
 
--- an entry of a unit's list of files
-pub record FileEntry : Type 0 where
-  pub name : List ℕ
-  pub directory : ℕ
-
 -- a unit, before its program is run
 pub record Unit : Type 0 where
   pub rules : Rules
-  pub directories : List (List ℕ)
-  pub files : List FileEntry
+  pub directories : List Entry
+  pub files : List Entry
   pub program : List ℕ
 
 -- a byte as a signed number, modulo 2^64
 abbrev pub signed_byte : ℕ → ℕ
 signed_byte b = if nat_lt b 128 then b else 2 ^ 64 - 256 + b
 
--- In version 4 the number of operations of an instruction is told, and it has to be 1.
+-- From version 4 on the number of operations of an instruction is told, and it has to be 1.
 abbrev pub single_operations_at : ℕ → List ℕ → Option (List ℕ)
 single_operations_at version bs =
-    if version == 4 then (byte_at bs >>= λ n. if n.0 == 1 then Some n.1 else None) else Some bs
+    if nat_lt version 4 then Some bs else byte_at bs >>= λ n. if n.0 == 1 then Some n.1 else None
 
 -- the fields from minimum_instruction_length up to the operand counts
 unfoldable pub rules_at : ℕ → List ℕ → Option (Rules × List ℕ)
@@ -49,6 +47,7 @@ rules_at version bs =
     else bytes_at (opcodes.0 - 1) opcodes.1 >>= λ counts.
     Some (
       record {
+        version = version;
         minimum_length = minimum.0;
         line_base = signed_byte base.0;
         line_range = range.0;
@@ -58,41 +57,61 @@ rules_at version bs =
       counts.1,
     )
 
+-- a path of a unit's own in a directory
+abbrev pub named : List ℕ → ℕ → Entry
+named name directory = record { path = Some (InUnit name); directory = directory }
+
 -- texts up to an empty one, of which so many bytes have at most so many
-unfoldable pub directories_at : ℕ → List ℕ → Option (List (List ℕ) × List ℕ)
+unfoldable pub directories_at : ℕ → List ℕ → Option (List Entry × List ℕ)
 directories_at zero bs = None
 directories_at (suc n) bs =
     text_at bs >>= λ first.
     if length first.0 == 0 then Some ([], first.1)
-    else directories_at n first.1 >>= λ others. Some (first.0 ∷ others.0, others.1)
+    else directories_at n first.1 >>= λ others. Some (named first.0 0 ∷ others.0, others.1)
 
 -- what follows the name of a file: its directory, its time and its length
-abbrev pub file_after : List ℕ → List ℕ → Option (FileEntry × List ℕ)
+abbrev pub file_after : List ℕ → List ℕ → Option (Entry × List ℕ)
 file_after name bs =
     uleb_at bs >>= λ directory.
     uleb_at directory.1 >>= λ time.
     uleb_at time.1 >>= λ size.
-    Some (record { name = name; directory = directory.0 }, size.1)
+    Some (named name directory.0, size.1)
 
 -- files up to one with an empty name
-unfoldable pub files_at : ℕ → List ℕ → Option (List FileEntry)
+unfoldable pub files_at : ℕ → List ℕ → Option (List Entry)
 files_at zero bs = None
 files_at (suc n) bs =
     text_at bs >>= λ name.
     if length name.0 == 0 then Some []
     else file_after name.0 name.1 >>= λ first. files_at n first.1 >>= λ others. Some (first.0 ∷ others)
 
--- A unit, from its version on. Versions 2 to 4 are read. The program begins where header_length says.
-unfoldable pub unit_at : List ℕ → Option Unit
-unit_at bs =
+-- the lists of directories and files
+unfoldable pub lists_at : TextSections → ℕ → List ℕ → Option (List Entry × List Entry)
+lists_at s version bs =
+    if version == 5 then
+    (entries_at s bs >>= λ directories. entries_at s directories.1 >>= λ files. Some (directories.0, files.0))
+    else directories_at (length bs) bs >>= λ directories.
+    files_at (length directories.1) directories.1 >>= λ files. Some (directories.0, files)
+
+-- In version 5 the size of an address is told, which has to be 8, and that of a segment selector, which has to be 0.
+abbrev pub after_sizes : ℕ → List ℕ → Option (List ℕ)
+after_sizes version bs =
+    if version == 5 then
+    (byte_at bs >>= λ address. byte_at address.1 >>= λ selector.
+    if address.0 == 8 && selector.0 == 0 then Some selector.1 else None)
+    else Some bs
+
+-- A unit, from its version on. Versions 2 to 5 are read. The program begins where header_length says.
+unfoldable pub unit_at : TextSections → List ℕ → Option Unit
+unit_at s bs =
     half_at bs >>= λ version.
-    if nat_lt version.0 2 || nat_lt 4 version.0 then None
-    else word_at version.1 >>= λ len.
+    if nat_lt version.0 2 || nat_lt 5 version.0 then None
+    else after_sizes version.0 version.1 >>= λ rest.
+    word_at rest >>= λ len.
     bytes_at len.0 len.1 >>= λ header.
     rules_at version.0 len.1 >>= λ rules.
-    directories_at (length rules.1) rules.1 >>= λ directories.
-    files_at (length directories.1) directories.1 >>= λ files.
-    Some (record { rules = rules.0; directories = directories.0; files = files; program = header.1 })
+    lists_at s version.0 rules.1 >>= λ lists.
+    Some (record { rules = rules.0; directories = lists.0; files = lists.1; program = header.1 })
 
 -- An operation does one of these.
 pub data Operation : Type 0 where
@@ -103,7 +122,7 @@ pub data Operation : Type 0 where
   SetAddress : ℕ → Operation
   SetFile : ℕ → Operation
   EndSequence : Operation
-  DefineFile : FileEntry → Operation
+  DefineFile : Entry → Operation
 
 -- how far a special opcode moves the address
 abbrev pub address_advance : Rules → ℕ → ℕ
@@ -133,22 +152,22 @@ standard_at r opcode bs =
     else if nat_lt opcode 13 then Some (nothing, bs)
     else after_numbers (slice_index r.operand_counts (opcode - 1)) bs >>= λ rest. Some (nothing, rest)
 
--- the bytes of an extended operation, from its own opcode on
-unfoldable pub extended_in : List ℕ → Option Operation
-extended_in [] = Some nothing
-extended_in (opcode ∷ bs) =
+-- The bytes of an extended operation, from its own opcode on. Version 5 has no define_file.
+unfoldable pub extended_in : ℕ → List ℕ → Option Operation
+extended_in version [] = Some nothing
+extended_in version (opcode ∷ bs) =
     if opcode == 1 then Some EndSequence
     else if opcode == 2 then
     (if length bs == 8 then (long_at bs >>= λ a. Some (SetAddress a.0)) else None)
-    else if opcode == 3 then
+    else if opcode == 3 && nat_lt version 5 then
     (text_at bs >>= λ name. file_after name.0 name.1 >>= λ entry. Some (DefineFile entry.0))
     else Some nothing
 
-unfoldable pub extended_at : List ℕ → Option (Operation × List ℕ)
-extended_at bs =
+unfoldable pub extended_at : ℕ → List ℕ → Option (Operation × List ℕ)
+extended_at version bs =
     uleb_at bs >>= λ len.
     bytes_at len.0 len.1 >>= λ body.
-    extended_in body.0 >>= λ operation. Some (operation, body.1)
+    extended_in version body.0 >>= λ operation. Some (operation, body.1)
 
 -- the operation at the front of a program
 unfoldable pub operation_at : Rules → List ℕ → Option (Operation × List ℕ)
@@ -156,7 +175,7 @@ operation_at r bs =
     byte_at bs >>= λ opcode.
     if nat_le r.opcode_base opcode.0
     then Some (AddRow (address_advance r opcode.0) (line_advance r opcode.0), opcode.1)
-    else if opcode.0 == 0 then extended_at opcode.1
+    else if opcode.0 == 0 then extended_at r.version opcode.1
     else standard_at r opcode.0 opcode.1
 
 -- All operations of a program. So many bytes have at most so many.
@@ -179,9 +198,9 @@ pub record Machine : Type 0 where
   pub line : ℕ
   pub rows : List Row
   pub sequences : List Sequence
-  pub files : List FileEntry
+  pub files : List Entry
 
-abbrev pub begin : List FileEntry → Machine
+abbrev pub begin : List Entry → Machine
 begin files = record { address = 0; file = 1; line = 1; rows = []; sequences = []; files = files }
 
 abbrev pub advance : ℕ → ℕ → Machine → Machine

@@ -57,3 +57,8 @@ sleb_at bs = sleb_within 10 bs
 abbrev pub text_at : List ℕ → Option (List ℕ × List ℕ)
 text_at [] = None
 text_at (b ∷ bs) = if b == 0 then Some ([], bs) else text_at bs >>= λ t. Some (b ∷ t.0, t.1)
+
+-- so many things one after another, each of them read so
+unfoldable pub list_at : {A : Type 0} → (List ℕ → Option (A × List ℕ)) → ℕ → List ℕ → Option (List A × List ℕ)
+list_at read zero bs = Some ([], bs)
+list_at read (suc n) bs = read bs >>= λ first. list_at read n first.1 >>= λ others. Some (first.0 ∷ others.0, others.1)

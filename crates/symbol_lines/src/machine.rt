@@ -4,7 +4,7 @@ ghost use Rattle.std.specs.Option.{option_map};
 ghost use Rattle.std.specs.List.Sorted.{IsNonDecreasingBy};
 ghost use Rattle.symbol_lines.specs.Program.{operations_in};
 
-use crate::program::{FileEntry, Operation, Rules};
+use crate::program::{Entry, Operation, Rules};
 use crate::rows::{Row, add_row};
 use std::alloc::{AllocError, Global};
 
@@ -31,7 +31,7 @@ pub struct Machine<'a> {
     pub start: Option<u64>,
     pub rows: Vec<Row>,
     pub sequences: Vec<Sequence>,
-    pub files: Vec<FileEntry<'a>>,
+    pub files: Vec<Entry<'a>>,
     /// The number of the unit.
     pub unit: usize,
     ghost rising: { IsNonDecreasingBy (λ r. r.address) rows.items },

@@ -1,8 +1,9 @@
-// The ends of all names of a string table, found from its end on: each byte is tested once, however many symbols share a
-// name.
+// The ends of all texts of a section of texts, found from its end on: each byte is tested once, however many symbols or
+// files share a text.
 ghost use Rattle.std.specs.Prelude.{◌≡◌, ◌+◌, ◌-◌, ◌<◌, ◌≤◌, ◌&&◌, length, nat_lt, nat_le, IfOk};
 ghost use Rattle.symbol_lines.specs.Symbols as symbols;
-ghost use Rattle.symbol_lines.specs.NameEnds.{name_end, place_in, HasEnds, IsBoundary};
+ghost use Rattle.std.specs.Option.{option_map};
+ghost use Rattle.symbol_lines.specs.NameEnds.{name_end, place_in, HasEnds, HasNames, IsBoundary, shown_at};
 
 use std::alloc::{AllocError, Global};
 use std::str;
@@ -43,8 +44,7 @@ fn end_of(strings: &[u8], ends: &[usize], offset: usize, boundary: usize) -> usi
 
 /// Where the names at all offsets end, from the last offset down.
 pub fn name_ends(alloc: Global, strings: &[u8]) -> Result<Vec<usize>, AllocError>
-    ensures ends { IfOk result (λ v. HasEnds strings.now v.items) }
-    ensures all { IfOk result (λ v. length v.items ≡ length strings.now) }
+    ensures { IfOk result (λ v. HasNames strings.now v.items) }
 {
     let mut ends = Vec::with_capacity(alloc, strings.len())?;
     let mut boundary = strings.len();
@@ -60,19 +60,29 @@ pub fn name_ends(alloc: Global, strings: &[u8]) -> Result<Vec<usize>, AllocError
     Ok(ends)
 }
 
-/// The name at an offset of the string table, and none where it has no end in the table or can't be shown.
-pub fn name_at<'a>(strings: &'a [u8], ends: &[usize], offset: usize) -> &'a str
-    requires ends { HasEnds strings.now ends.now }
-    requires all { length ends.now ≡ length strings.now }
-    ensures { result.now ≡ symbols.name_at strings.now offset }
+/// The text at an offset, and none where it has no end or can't be shown.
+pub fn shown_at<'a>(strings: &'a [u8], ends: &[usize], offset: usize) -> Option<&'a str>
+    requires { HasNames strings.now ends.now }
+    ensures { option_map (λ t. t.now) result ≡ shown_at strings.now offset }
 {
     if offset >= strings.len() {
-        return "";
+        return None;
     }
     let end = ends[strings.len() - 1 - offset];
     if end >= strings.len() {
-        return "";
+        return None;
     }
     // The ends are those of names that can be shown, which are UTF-8.
-    unsafe { str::from_utf8_unchecked(&strings[offset..end]) }
+    Some(unsafe { str::from_utf8_unchecked(&strings[offset..end]) })
+}
+
+/// The name at an offset of the string table, and an empty one where there is none.
+pub fn name_at<'a>(strings: &'a [u8], ends: &[usize], offset: usize) -> &'a str
+    requires { HasNames strings.now ends.now }
+    ensures { result.now ≡ symbols.name_at strings.now offset }
+{
+    match shown_at(strings, ends, offset) {
+        Some(name) => name,
+        None => "",
+    }
 }

@@ -1,73 +1,110 @@
 // Names of code places.
 ghost use Rattle.std.specs.Prelude.{◌≡◌, IfOk};
+ghost use Rattle.symbol_lines.specs.Frames as frames;
+ghost use Rattle.symbol_lines.specs.SectionViews.{tables_view};
 
 use crate::frames::{FileText, Frame, Frames};
 use crate::machine::Sequence;
 use crate::name_table::{name_at, name_ends};
+use crate::paths::FileList;
 use crate::positions::find_position;
 use crate::sequences::{AllLines, read_lines, sequence_spans};
 use crate::spans::{Step, find_owner, steps_of};
 use crate::symbols::function_spans;
+use crate::text_sections::{TextSection, TextSections};
 use elf_image::Image;
 use run_record::NoMemory;
 use std::alloc::Global;
 use std::marker::Model;
 
+/// The tables of a file that names are read from, and empty ones where it has none.
+#[derive(Clone, Copy)]
+struct TableBytes<'a> {
+    symbols: &'a [u8],
+    /// The string table of the symbols.
+    strings: &'a [u8],
+    /// The sections .debug_line, .debug_str and .debug_line_str.
+    lines: &'a [u8],
+    debug_str: &'a [u8],
+    debug_line_str: &'a [u8],
+}
+
 /// The names of an executable's code places. Contracts see the tables of the file that they are read from.
 #[derive(Drop)]
 pub struct Names<'a> {
-    symbols: &'a [u8],
-    strings: &'a [u8],
-    lines: &'a [u8],
+    tables: TableBytes<'a>,
     ends: Vec<usize>,
     functions: Vec<Step>,
     places: Vec<Step>,
     sequences: Vec<Sequence>,
-    units: Vec<Vec<FileText<'a>>>,
+    units: Vec<FileList<'a>>,
 }
 
 impl<'a> Model for Names<'a> {
     ghost use Rattle.std.specs.Prelude.{map};
     ghost use Rattle.symbol_lines.specs.Frames.{Tables};
     ghost use Rattle.symbol_lines.specs.Found.{IsRead};
-    ghost use Rattle.symbol_lines.specs.KeptLines.{texts_view};
+    ghost use Rattle.symbol_lines.specs.KeptLines.{files_view};
     ghost use Rattle.symbol_lines.specs.MachineViews.{sequence_view};
+    ghost use Rattle.symbol_lines.specs.SectionViews.{tables_view};
 
     ghost Value = { Tables };
 
-    ghost view = { λ n. record { symbols = n.symbols.now; strings = n.strings.now; lines = n.lines.now } };
+    ghost view = { λ n. tables_view n.tables };
 
-    ghost invariant = { λ n. IsRead n.symbols.now n.strings.now n.lines.now n.ends.items n.functions.items n.places.items (map sequence_view n.sequences.items) (map texts_view n.units.items) };
+    ghost invariant = { λ n. IsRead (tables_view n.tables) n.ends.items n.functions.items n.places.items (map sequence_view n.sequences.items) (map files_view n.units.items) };
+}
+
+/// The bytes of a section, and none where there is no such section.
+fn section_or_none<'a>(image: &Image<'a>, name: &str) -> &'a [u8]
+    ensures { result.now ≡ frames.section_or_none image.now name.now }
+{
+    match image.section(name) {
+        Some(bytes) => bytes,
+        None => b"".as_slice(),
+    }
+}
+
+/// The tables of an executable.
+fn tables_of<'a>(image: &Image<'a>) -> TableBytes<'a>
+    ensures { tables_view result ≡ frames.tables_of image.now }
+{
+    let (symbols, strings) = match image.symbol_tables() {
+        Some(tables) => tables,
+        None => (b"".as_slice(), b"".as_slice()),
+    };
+    TableBytes {
+        symbols,
+        strings,
+        lines: section_or_none(image, ".debug_line"),
+        debug_str: section_or_none(image, ".debug_str"),
+        debug_line_str: section_or_none(image, ".debug_line_str"),
+    }
 }
 
 impl<'a> Names<'a> {
     ghost use Rattle.symbol_lines.specs.Frames.{tables_of};
 
     /// The names of an executable's code places. It takes memory in proportion to the tables: texts stay parts of the
-    /// executable. Whether a text can be shown is tested here, once for each directory, name of a file and byte of the
-    /// string table.
+    /// executable. Whether a text can be shown is tested here, once for each directory and file of a unit's own and for each
+    /// byte of the string table and of the sections .debug_str and .debug_line_str.
     pub fn read(alloc: Global, image: &Image<'a>) -> Result<Names<'a>, NoMemory>
         ensures { IfOk result (λ names. names ≡ tables_of image.now) }
     {
-        let (symbols, strings) = match image.symbol_tables() {
-            Some(tables) => tables,
-            None => (b"".as_slice(), b"".as_slice()),
-        };
-        let lines = match image.section(".debug_line") {
-            Some(lines) => lines,
-            None => b"".as_slice(),
-        };
-        let ends = name_ends(alloc, strings)?;
-        let spans = function_spans(alloc, symbols)?;
+        let tables = tables_of(image);
+        let ends = name_ends(alloc, tables.strings)?;
+        let spans = function_spans(alloc, tables.symbols)?;
         let functions = steps_of(alloc, spans.as_slice())?;
-        let all = read_lines(alloc, lines)?;
+        let sections = TextSections {
+            strings: TextSection::read(alloc, tables.debug_str)?,
+            line_strings: TextSection::read(alloc, tables.debug_line_str)?,
+        };
+        let all = read_lines(alloc, &sections, tables.lines)?;
         let spans = sequence_spans(alloc, all.sequences.as_slice())?;
         let places = steps_of(alloc, spans.as_slice())?;
         let AllLines { sequences, units } = all;
         Ok(Names {
-            symbols,
-            strings,
-            lines,
+            tables,
             ends,
             functions,
             places,
@@ -99,14 +136,15 @@ impl Names<'_> {
         ensures { result.now ≡ name_of self.now.symbols self.now.strings place }
     {
         match find_owner(self.functions.as_slice(), place) {
-            Some(owner) => name_at(self.strings, self.ends.as_slice(), owner.item),
+            Some(owner) => name_at(self.tables.strings, self.ends.as_slice(), owner.item),
             None => "",
         }
     }
 
     // The file and the line of a place.
     fn position(&self, place: u64) -> (FileText<'_>, u64)
-        ensures { position_view result ≡ position_at (sequences self.now.lines) place }
+        ensures { position_view result
+            ≡ position_at (sequences self.now.texts self.now.lines) place }
     {
         find_position(
             self.places.as_slice(),

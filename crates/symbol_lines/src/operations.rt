@@ -4,7 +4,7 @@ ghost use Rattle.std.specs.Option.{option_map};
 ghost use Rattle.symbol_lines.specs.Program as line_program;
 ghost use Rattle.symbol_lines.specs.Views.{rules_view, entry_view, operation_view};
 
-use crate::program::{FileEntry, Operation, Rules};
+use crate::program::{Entry, Operation, Path, Rules};
 use crate::reading::{byte_of, bytes_of, half_of, long_of, sleb_of, text_of, uleb_of};
 
 const NOTHING: Operation = Operation::Advance(0, 0);
@@ -22,7 +22,7 @@ fn signed_byte(byte: u8) -> u64
 fn after_single_operations(version: u16, bytes: &[u8]) -> Option<&[u8]>
     ensures { option_map (λ x. x.now) result ≡ line_program.single_operations_at version bytes.now }
 {
-    if version != 4 {
+    if version < 4 {
         return Some(bytes);
     }
     let (count, rest) = byte_of(bytes)?;
@@ -45,6 +45,7 @@ pub fn rules_of(version: u16, bytes: &[u8]) -> Option<(Rules<'_>, &[u8])>
     }
     let (operand_counts, rest) = bytes_of(opcode_base as u64 - 1, rest)?;
     let rules = Rules {
+        version,
         minimum_length,
         line_base: signed_byte(base),
         line_range,
@@ -54,14 +55,24 @@ pub fn rules_of(version: u16, bytes: &[u8]) -> Option<(Rules<'_>, &[u8])>
     Some((rules, rest))
 }
 
+/// A path of a unit's own in a directory.
+pub fn named<'a>(name: &'a [u8], directory: u64) -> Entry<'a>
+    ensures { entry_view result ≡ line_program.named name.now directory }
+{
+    Entry {
+        path: Some(Path::InUnit(name)),
+        directory,
+    }
+}
+
 /// What follows the name of a file: its directory, its time and its length.
-pub fn file_after<'a>(name: &'a [u8], bytes: &'a [u8]) -> Option<(FileEntry<'a>, &'a [u8])>
+pub fn file_after<'a>(name: &'a [u8], bytes: &'a [u8]) -> Option<(Entry<'a>, &'a [u8])>
     ensures { option_map (λ x. (entry_view x.0, x.1.now)) result ≡ line_program.file_after name.now bytes.now }
 {
     let (directory, rest) = uleb_of(bytes)?;
     let (_, rest) = uleb_of(rest)?;
     let (_, rest) = uleb_of(rest)?;
-    Some((FileEntry { name, directory }, rest))
+    Some((named(name, directory), rest))
 }
 
 /// How far a special opcode moves the address.
@@ -130,10 +141,10 @@ fn standard_of<'a>(
     }
 }
 
-/// The bytes of an extended operation, from its own opcode on.
+/// The bytes of an extended operation, from its own opcode on. Version 5 has no define_file.
 #[tactic(auto, unfolding(crate::specs::Program::extended_in))]
-fn extended_in(body: &[u8]) -> Option<Operation<'_>>
-    ensures { option_map operation_view result ≡ line_program.extended_in body.now }
+fn extended_in(version: u16, body: &[u8]) -> Option<Operation<'_>>
+    ensures { option_map operation_view result ≡ line_program.extended_in version body.now }
 {
     let (opcode, bytes) = match body {
         [] => return Some(NOTHING),
@@ -147,7 +158,7 @@ fn extended_in(body: &[u8]) -> Option<Operation<'_>>
         }
         let (address, _) = long_of(bytes)?;
         Some(Operation::SetAddress(address))
-    } else if opcode == 3 {
+    } else if opcode == 3 && version < 5 {
         let (name, rest) = text_of(bytes)?;
         let (entry, _) = file_after(name, rest)?;
         Some(Operation::DefineFile(entry))
@@ -157,12 +168,12 @@ fn extended_in(body: &[u8]) -> Option<Operation<'_>>
 }
 
 #[tactic(auto, unfolding(crate::specs::Program::extended_at))]
-fn extended_of(bytes: &[u8]) -> Option<(Operation<'_>, &[u8])>
-    ensures { option_map (λ x. (operation_view x.0, x.1.now)) result ≡ line_program.extended_at bytes.now }
+fn extended_of(version: u16, bytes: &[u8]) -> Option<(Operation<'_>, &[u8])>
+    ensures { option_map (λ x. (operation_view x.0, x.1.now)) result ≡ line_program.extended_at version bytes.now }
 {
     let (len, rest) = uleb_of(bytes)?;
     let (body, rest) = bytes_of(len, rest)?;
-    let operation = extended_in(body)?;
+    let operation = extended_in(version, body)?;
     Some((operation, rest))
 }
 
@@ -176,7 +187,7 @@ pub fn operation_of<'a>(rules: &Rules<'a>, bytes: &'a [u8]) -> Option<(Operation
         let row = Operation::AddRow(address_advance(rules, opcode), line_advance(rules, opcode));
         Some((row, rest))
     } else if opcode == 0 {
-        extended_of(rest)
+        extended_of(rules.version, rest)
     } else {
         standard_of(rules, opcode, rest)
     }

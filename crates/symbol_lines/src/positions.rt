@@ -1,25 +1,31 @@
 // The file and the line of a place, in tables that are sorted.
-ghost use Rattle.std.specs.Prelude.{◌≡◌, map, slice_index_or, slice_get, []};
+ghost use Rattle.std.specs.Prelude.{◌≡◌, map, slice_index_or, slice_get};
 ghost use Rattle.std.specs.List.Sorted.{IsNonDecreasingBy};
 ghost use Rattle.symbol_lines.specs.Spans.{owner_at, owner_among};
 ghost use Rattle.symbol_lines.specs.FileTexts.{text_of};
 ghost use Rattle.symbol_lines.specs.Lines.{position_at, file_text};
-ghost use Rattle.symbol_lines.specs.KeptLines.{resolved, texts_view, numbered, text_or_none, position_view};
+ghost use Rattle.symbol_lines.specs.KeptLines.{resolved, texts_view, files_view, no_files, numbered, text_or_none, position_view};
 ghost use Rattle.symbol_lines.specs.MachineViews.{sequence_view};
 
 use crate::frames::FileText;
 use crate::machine::Sequence;
+use crate::paths::FileList;
 use crate::rows::find_row;
 use crate::spans::{Step, find_owner};
 
-/// The text of a file of a unit, and none where there is no such file. Files are counted from 1.
-fn text_at<'a>(units: &[Vec<FileText<'a>>], unit: usize, number: u64) -> FileText<'a>
-    ensures { text_of result ≡ text_or_none (file_text (slice_index_or (map texts_view units.now) unit []) number) }
+/// The text of a file of a unit, and none where there is no such file.
+fn text_at<'a>(units: &[FileList<'a>], unit: usize, number: u64) -> FileText<'a>
+    ensures { let files = slice_index_or (map files_view units.now) unit no_files in
+        text_of result ≡ text_or_none (file_text files number) }
 {
-    if number == 0 || unit >= units.len() {
+    if unit >= units.len() {
         return FileText::of_name("");
     }
-    text_in(&units[unit], number - 1)
+    let files = &units[unit];
+    if number < files.first {
+        return FileText::of_name("");
+    }
+    text_in(&files.texts, number - files.first)
 }
 
 fn text_in<'a>(texts: &Vec<FileText<'a>>, index: u64) -> FileText<'a>
@@ -35,12 +41,13 @@ fn text_in<'a>(texts: &Vec<FileText<'a>>, index: u64) -> FileText<'a>
 pub fn find_position<'a>(
     steps: &[Step],
     sequences: &[Sequence],
-    units: &[Vec<FileText<'a>>],
+    units: &[FileList<'a>],
     place: u64,
 ) -> (FileText<'a>, u64)
     requires rising { IsNonDecreasingBy (λ s. s.from) steps.now }
     requires value { owner_at steps.now place ≡ owner_among (numbered 0 (map sequence_view sequences.now)) place }
-    ensures { position_view result ≡ position_at (map (resolved (map texts_view units.now)) (map sequence_view sequences.now)) place }
+    ensures { let kept = map sequence_view sequences.now in
+        position_view result ≡ position_at (map (resolved (map files_view units.now)) kept) place }
 {
     let owner = match find_owner(steps, place) {
         Some(owner) => owner,

@@ -4,6 +4,7 @@ ghost use Rattle.std.specs.Prelude.{◌+◌, ◌<◌, ◌≤◌, length};
 /// What a unit's header says of its operations.
 #[derive(Clone, Copy)]
 pub struct Rules<'a> {
+    pub version: u16,
     pub minimum_length: u8,
     /// Modulo 2^64.
     pub line_base: u64,
@@ -15,10 +16,22 @@ pub struct Rules<'a> {
     ghost counted: { opcode_base ≤ length operand_counts.now + 1 },
 }
 
-/// An entry of a unit's list of files.
+/// A path: bytes of the unit itself, or the offset of a text in a section.
 #[derive(Clone, Copy)]
-pub struct FileEntry<'a> {
-    pub name: &'a [u8],
+pub enum Path<'a> {
+    InUnit(&'a [u8]),
+    /// In .debug_str.
+    InStrings(u32),
+    /// In .debug_line_str.
+    InLineStrings(u32),
+}
+
+/// An entry of a unit's list of directories or of files.
+#[derive(Clone, Copy)]
+pub struct Entry<'a> {
+    /// None where no path is told.
+    pub path: Option<Path<'a>>,
+    /// The number of the directory that it is in.
     pub directory: u64,
 }
 
@@ -26,8 +39,8 @@ pub struct FileEntry<'a> {
 #[derive(Drop)]
 pub struct Unit<'a> {
     pub rules: Rules<'a>,
-    pub directories: Vec<&'a [u8]>,
-    pub files: Vec<FileEntry<'a>>,
+    pub directories: Vec<Entry<'a>>,
+    pub files: Vec<Entry<'a>>,
     pub program: &'a [u8],
 }
 
@@ -41,5 +54,5 @@ pub enum Operation<'a> {
     SetAddress(u64),
     SetFile(u64),
     EndSequence,
-    DefineFile(FileEntry<'a>),
+    DefineFile(Entry<'a>),
 }

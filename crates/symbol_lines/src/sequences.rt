@@ -3,30 +3,31 @@ ghost use Rattle.std.specs.Prelude.{◌≡◌, map, IfOk, []};
 ghost use Rattle.std.specs.Option.{option_map};
 ghost use Rattle.symbol_lines.specs.Program.{unit_at};
 ghost use Rattle.symbol_lines.specs.Lines.{lines_of, next_unit, sequences};
-ghost use Rattle.symbol_lines.specs.KeptLines.{kept_lines, with_texts, resolved, texts_view, UnitsAre, numbered};
+ghost use Rattle.symbol_lines.specs.KeptLines.{kept_lines, with_files, resolved, files_view, UnitsAre, numbered};
 ghost use Rattle.symbol_lines.specs.MachineViews.{sequence_view};
+ghost use Rattle.symbol_lines.specs.SectionViews.{sections_view};
 
-use crate::frames::FileText;
 use crate::machine::{Machine, Sequence};
-use crate::paths::{shown_directories, texts_of};
+use crate::paths::{FileList, file_list};
 use crate::program::Unit;
 use crate::reading::{bytes_of, long_of, word_of};
 use crate::spans::Span;
+use crate::text_sections::TextSections;
 use crate::units::{run, unit_of};
 use std::alloc::{AllocError, Global};
 
-/// The sequences of a unit, and the texts of its files.
+/// The sequences of a unit, and its files.
 #[derive(Drop)]
 pub struct UnitLines<'a> {
     pub sequences: Vec<Sequence>,
-    pub files: Vec<FileText<'a>>,
+    pub files: FileList<'a>,
 }
 
-/// The sequences of all units in reading order, and each unit's texts.
+/// The sequences of all units in reading order, and each unit's files.
 #[derive(Drop)]
 pub struct AllLines<'a> {
     pub sequences: Vec<Sequence>,
-    pub units: Vec<Vec<FileText<'a>>>,
+    pub units: Vec<FileList<'a>>,
 }
 
 /// The bytes of the next unit behind its length, and the bytes after it.
@@ -47,11 +48,18 @@ fn next_unit(bytes: &[u8]) -> Option<(&[u8], &[u8])>
 }
 
 /// The sequences of the unit of this number, none where it is malformed or of another version.
-fn read_unit(alloc: Global, bytes: &[u8], number: usize) -> Result<UnitLines<'_>, AllocError>
-    ensures lines { IfOk result (λ u. map (with_texts (texts_view u.files)) (map sequence_view u.sequences.items) ≡ map kept_lines (lines_of (unit_at bytes.now))) }
+fn read_unit<'a>(
+    alloc: Global,
+    sections: &TextSections<'a>,
+    bytes: &'a [u8],
+    number: usize,
+) -> Result<UnitLines<'a>, AllocError>
+    ensures lines { let s = sections_view sections.now in
+        IfOk result (λ u. map (with_files (files_view u.files)) (map sequence_view u.sequences.items)
+        ≡ map kept_lines (lines_of s (unit_at s bytes.now))) }
     ensures units { IfOk result (λ u. UnitsAre number (map sequence_view u.sequences.items)) }
 {
-    let unit = match unit_of(alloc, bytes)? {
+    let unit = match unit_of(alloc, sections, bytes)? {
         Some(unit) => unit,
         None => return Ok(no_lines(alloc)),
     };
@@ -75,8 +83,13 @@ fn read_unit(alloc: Global, bytes: &[u8], number: usize) -> Result<UnitLines<'_>
         Some(machine) => machine,
         None => return Ok(no_lines(alloc)),
     };
-    let shown = shown_directories(alloc, directories.as_slice())?;
-    let files = texts_of(alloc, shown.as_slice(), machine.files.as_slice())?;
+    let files = file_list(
+        alloc,
+        sections,
+        rules.version,
+        directories.as_slice(),
+        machine.files.as_slice(),
+    )?;
     let sequences = std::mem::replace(&mut machine.sequences, Vec::new(alloc));
     Ok(UnitLines { sequences, files })
 }
@@ -86,14 +99,23 @@ fn no_lines<'a>(alloc: Global) -> UnitLines<'a>
 {
     UnitLines {
         sequences: Vec::new(alloc),
-        files: Vec::new(alloc),
+        files: FileList {
+            first: 0,
+            texts: Vec::new(alloc),
+        },
     }
 }
 
 /// The sequences of a section of line units.
 #[tactic(auto, unfolding(crate::specs::Lines::sequences))]
-pub fn read_lines(alloc: Global, section: &[u8]) -> Result<AllLines<'_>, AllocError>
-    ensures { IfOk result (λ x. map (resolved (map texts_view x.units.items)) (map sequence_view x.sequences.items) ≡ map kept_lines (sequences section.now)) }
+pub fn read_lines<'a>(
+    alloc: Global,
+    sections: &TextSections<'a>,
+    section: &'a [u8],
+) -> Result<AllLines<'a>, AllocError>
+    ensures { IfOk result (λ x. let kept = map sequence_view x.sequences.items in
+        map (resolved (map files_view x.units.items)) kept
+        ≡ map kept_lines (sequences (sections_view sections.now) section.now)) }
 {
     let mut found = Vec::new(alloc);
     let mut units = Vec::new(alloc);
@@ -111,7 +133,7 @@ pub fn read_lines(alloc: Global, section: &[u8]) -> Result<AllLines<'_>, AllocEr
         let UnitLines {
             mut sequences,
             files,
-        } = read_unit(alloc, unit, units.len())?;
+        } = read_unit(alloc, sections, unit, units.len())?;
         found.append(&mut sequences)?;
         units.push(files)?;
         rest = after;

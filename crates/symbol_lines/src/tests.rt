@@ -12,9 +12,18 @@ const LINES: [u8; 65] = [
     9, 1, 2, 0x3c, 3, 0x0a, 1, 2, 0x2c, 0, 1, 1,
 ];
 
-const NAMES: &[u8] = b"\0.symtab\0.strtab\0.debug_line\0.shstrtab\0\0";
+const NAMES: &[u8] =
+    b"\0.symtab\0.strtab\0.debug_line\0.shstrtab\0.debug_line_str\0\0\0\0\0\0\0\0\0\0";
+
+// Where the section headers stand in a file, and the bytes behind the six of them.
+const HEADERS: usize = 400;
+
+const BEHIND_HEADERS: u64 = 784;
 
 const STRINGS: &[u8] = b"\0main\0a\0";
+
+// The texts of the unit of version 5, at 0, 3, 7 and 11. The last one can't be shown.
+const TEXTS: &[u8] = b"/w\0src\0a.c\0b\x1f.c\0";
 
 fn put_halves(bytes: &mut Vec<u8>, values: &[u16]) -> Result<(), AllocError> {
     for value in values {
@@ -64,38 +73,42 @@ fn put_symbol(
     put_longs(bytes, &[start, size])
 }
 
-// An executable with code from 0x10000 to 0x10068, these symbols and these line units. The section headers stand at 376.
+// An executable with code from 0x10000 to 0x10068, these symbols, these line units and these texts in .debug_line_str.
 fn file(
     alloc: Global,
     symbols: &[(u32, u8, u64, u64)],
     strings: &[u8],
     lines: &[u8],
+    texts: &[u8],
 ) -> Result<Vec<u8>, AllocError> {
     let mut bytes = Vec::new(alloc);
     bytes.extend_from_slice(&[0x7f, 0x45, 0x4c, 0x46, 2, 1, 1, 0, 0, 0, 0, 0, 0, 0, 0, 0])?;
     put_halves(&mut bytes, &[2, 243])?;
     put_words(&mut bytes, &[1])?;
-    put_longs(&mut bytes, &[0x1_0000, 64, 376])?;
+    put_longs(&mut bytes, &[0x1_0000, 64, HEADERS as u64])?;
     put_words(&mut bytes, &[0])?;
-    put_halves(&mut bytes, &[64, 56, 1, 64, 5, 4])?;
+    put_halves(&mut bytes, &[64, 56, 1, 64, 6, 4])?;
     put_words(&mut bytes, &[1, 5])?;
     put_longs(&mut bytes, &[176, 0x1_0000, 0x1_0000, 104, 104, 8])?;
     bytes.extend_from_slice(&[0; 216])?;
     bytes.extend_from_slice(NAMES)?;
     let size = 24u64.wrapping_mul(symbols.len() as u64);
     let text = strings.len() as u64;
-    let strings_at = 696u64.wrapping_add(size);
+    let strings_at = BEHIND_HEADERS.wrapping_add(size);
     let lines_at = strings_at.wrapping_add(text);
+    let texts_at = lines_at.wrapping_add(lines.len() as u64);
     put_section(&mut bytes, [0, 0], [0, 0], 0)?;
-    put_section(&mut bytes, [1, 2], [696, size], 2)?;
+    put_section(&mut bytes, [1, 2], [BEHIND_HEADERS, size], 2)?;
     put_section(&mut bytes, [9, 3], [strings_at, text], 0)?;
     put_section(&mut bytes, [17, 1], [lines_at, lines.len() as u64], 0)?;
-    put_section(&mut bytes, [29, 3], [336, 39], 0)?;
+    put_section(&mut bytes, [29, 3], [336, 55], 0)?;
+    put_section(&mut bytes, [39, 1], [texts_at, texts.len() as u64], 0)?;
     for (name, kind, start, size) in symbols {
         put_symbol(&mut bytes, *name, *kind, *start, *size)?;
     }
     bytes.extend_from_slice(strings)?;
     bytes.extend_from_slice(lines)?;
+    bytes.extend_from_slice(texts)?;
     Ok(bytes)
 }
 
@@ -108,7 +121,7 @@ fn name_over(
     place: u64,
     name: &str,
 ) -> Result<bool, Fail> {
-    let bytes = file(alloc, symbols, strings, b"")?;
+    let bytes = file(alloc, symbols, strings, b"", b"")?;
     let image = load(alloc, bytes.as_slice())?;
     let names = Names::read(alloc, &image)?;
     let frame = names.frame(place);
@@ -153,7 +166,7 @@ fn frame_is(
     place: u64,
     expected: (&str, &str, u64),
 ) -> Result<bool, Fail> {
-    let bytes = file(alloc, &FUNCTIONS, STRINGS, lines)?;
+    let bytes = file(alloc, &FUNCTIONS, STRINGS, lines, TEXTS)?;
     let image = load(alloc, bytes.as_slice())?;
     let names = Names::read(alloc, &image)?;
     let frame = names.frame(place);
@@ -190,11 +203,11 @@ fn reads_changed_tables(rt: HostRuntime) -> Result<(), Fail> {
         // The program ends in the middle of an operation, and the unit reaches past the section.
         (0, 0x3c, "", 0),
         (0, 0x3e, "", 0),
-        // Versions 1 and 5 are passed over. In versions 2 and 3 the fields from 11 on stand one byte before.
+        // Versions 1 and 6 are passed over. In versions 2 and 3 the fields from 11 on stand one byte before.
         (4, 1, "", 0),
         (4, 2, "src/a.c", 20),
         (4, 3, "src/a.c", 20),
-        (4, 5, "", 0),
+        (4, 6, "", 0),
         // The program begins at its second byte, at the unit's end and past it; instructions of two bytes, and of two
         // operations.
         (6, 0x20, "", 0),
@@ -325,7 +338,7 @@ fn keeps_one_long_directory(rt: HostRuntime) -> Result<(), Fail> {
     lines.extend_from_slice(&LINES[4..6])?;
     put_len(&mut lines, header)?;
     lines.extend_from_slice(unit.get(6..).ok_or("no unit")?)?;
-    let bytes = file(alloc, &FUNCTIONS, STRINGS, lines.as_slice())?;
+    let bytes = file(alloc, &FUNCTIONS, STRINGS, lines.as_slice(), b"")?;
     let image = load(alloc, bytes.as_slice())?;
     let names = Names::read(alloc, &image)?;
     let frame = names.frame(0x1_0054);
@@ -336,9 +349,9 @@ fn keeps_one_long_directory(rt: HostRuntime) -> Result<(), Fail> {
     Ok(())
 }
 
-// A unit with a length of 64 bits, and one of version 5.
+// A unit with a length of 64 bits, and one of version 6.
 const PASSED_OVER: [u8; 21] = [
-    0xff, 0xff, 0xff, 0xff, 3, 0, 0, 0, 0, 0, 0, 0, 0x61, 0x62, 0x63, 2, 0, 0, 0, 5, 0,
+    0xff, 0xff, 0xff, 0xff, 3, 0, 0, 0, 0, 0, 0, 0, 0x61, 0x62, 0x63, 2, 0, 0, 0, 6, 0,
 ];
 
 // A unit of version 3 with each operation: instructions of two bytes, special opcodes from 14 on, directories d and e,
@@ -382,6 +395,48 @@ fn reads_all_units(rt: HostRuntime) -> Result<(), Fail> {
         (0x1_00cf, ("", "src/a.c", 20)),
         (0x1_00d0, ("", "", 0)),
         (0x2_0000, ("", "", 0)),
+    ];
+    for (place, expected) in places {
+        assert!(rt;
+            frame_is(rt.alloc(), lines.as_slice(), place, expected)?,
+            "at {place}"
+        );
+    }
+    Ok(())
+}
+
+// A unit of version 5. Its directories are /w, src, one that can't be shown, and src again; its files are src/a.c, one that
+// can't be shown, src/ and no name, one in the third directory, and one in a directory that isn't there. Each file tells two
+// paths, and fields that are passed over. The program defines a file, which version 5 doesn't read.
+const VERSION_5: [u8; 279] = [
+    0x13, 1, 0, 0, 5, 0, 8, 0, 0xd8, 0, 0, 0, 1, 1, 1, 0xfb, 0x0e, 0x0d, 0, 1, 1, 1, 1, 0, 0, 0, 1,
+    0, 0, 1, 2, 1, 0x1f, 2, 0x0f, 4, 0, 0, 0, 0, 0, 3, 0, 0, 0, 0, 0x0b, 0, 0, 0, 0, 3, 0, 0, 0, 0,
+    7, 1, 8, 1, 0x1f, 2, 5, 5, 0x1e, 4, 0x0f, 3, 9, 0x81, 0x40, 8, 5, 0x78, 0, 7, 0, 0, 0, 1, 0, 0,
+    0, 0, 0, 0, 0, 0, 0, 0, 0, 0, 0, 0, 0, 0, 0, 0xac, 2, 2, 0x68, 0x69, 0x76, 0, 0x79, 0, 0x0b, 0,
+    0, 0, 1, 0, 0, 0, 0, 0, 0, 0, 0, 0, 0, 0, 0, 0, 0, 0, 0, 0, 0xac, 2, 2, 0x68, 0x69, 0x76, 0,
+    0x7a, 0, 2, 0, 0, 0, 3, 0, 0, 0, 0, 0, 0, 0, 0, 0, 0, 0, 0, 0, 0, 0, 0, 0, 0xac, 2, 2, 0x68,
+    0x69, 0x76, 0, 0x71, 0, 7, 0, 0, 0, 2, 0, 0, 0, 0, 0, 0, 0, 0, 0, 0, 0, 0, 0, 0, 0, 0, 0, 0xac,
+    2, 2, 0x68, 0x69, 0x76, 0, 0x72, 0, 7, 0, 0, 0, 9, 0, 0, 0, 0, 0, 0, 0, 0, 0, 0, 0, 0, 0, 0, 0,
+    0, 0, 0xac, 2, 2, 0x68, 0x69, 0x76, 0, 0, 9, 2, 0, 0, 1, 0, 0, 0, 0, 0, 1, 2, 0x10, 4, 0, 3, 4,
+    1, 2, 0x10, 4, 2, 3, 1, 1, 2, 0x1c, 4, 3, 1, 2, 4, 4, 4, 1, 2, 4, 0, 3, 3, 0x61, 0x62, 4, 5, 1,
+    2, 4, 0, 1, 1,
+];
+
+#[test]
+fn reads_units_of_two_versions(rt: HostRuntime) -> Result<(), Fail> {
+    let mut behind = LINES;
+    behind[44] = 0x48;
+    let mut lines = Vec::new(rt.alloc());
+    lines.extend_from_slice(&VERSION_5)?;
+    lines.extend_from_slice(&behind)?;
+    let places = [
+        (0x1_0000, ("main", "", 0)),
+        (0x1_0010, ("main", "src/a.c", 5)),
+        (0x1_0020, ("main", "src/", 6)),
+        (0x1_003c, ("a", "", 0)),
+        (0x1_0040, ("a", "", 0)),
+        (0x1_0044, ("a", "", 0)),
+        (0x1_0048, ("a", "src/a.c", 10)),
     ];
     for (place, expected) in places {
         assert!(rt;
@@ -451,20 +506,20 @@ fn takes_bad_tables_for_none(rt: HostRuntime) -> Result<(), Fail> {
     let changes = [
         (58, 63, ""),
         (42, 1, ""),
-        (62, 5, ""),
-        (376 + 64 * 1 + 4, 3, ""),
-        (376 + 64 * 1 + 9, 8, ""),
-        (376 + 64 * 1 + 34, 1, ""),
-        (376 + 64 * 1 + 40, 3, ""),
-        (376 + 64 * 1 + 40, 9, ""),
-        (376 + 64 * 1 + 32, 47, "main"),
-        (376 + 64 * 1 + 32, 23, ""),
-        (376 + 64 * 2 + 4, 1, ""),
-        (376 + 64 * 2 + 33, 1, ""),
-        (376 + 64 * 3 + 33, 200, "main"),
+        (62, 6, ""),
+        (HEADERS + 64 * 1 + 4, 3, ""),
+        (HEADERS + 64 * 1 + 9, 8, ""),
+        (HEADERS + 64 * 1 + 34, 1, ""),
+        (HEADERS + 64 * 1 + 40, 3, ""),
+        (HEADERS + 64 * 1 + 40, 9, ""),
+        (HEADERS + 64 * 1 + 32, 47, "main"),
+        (HEADERS + 64 * 1 + 32, 23, ""),
+        (HEADERS + 64 * 2 + 4, 1, ""),
+        (HEADERS + 64 * 2 + 33, 1, ""),
+        (HEADERS + 64 * 3 + 33, 200, "main"),
     ];
     for (offset, value, name) in changes {
-        let mut bytes = file(rt.alloc(), &FUNCTIONS, STRINGS, b"")?;
+        let mut bytes = file(rt.alloc(), &FUNCTIONS, STRINGS, b"", b"")?;
         if let Some(byte) = bytes.get_mut(offset) {
             *byte = value;
         }

@@ -1,5 +1,7 @@
 -- How a call of the tool may end, and what it then has done.
 use Rattle.std.specs.Prelude.{◌≡◌, ◌<◌, ◌≤◌, ◌⊎◌, ℕ, Bool, true, false, List, [], length, nat_lt, if◌then◌else◌, Option, Some, None, Result, Ok, Err, IfSome, option_and_then}
+use Rattle.std.specs.declared.io.ErrorKind.{ErrorKind}
+use Rattle.std.specs.declared.io.ErrorKind.TheVariants.{OutOfMemory}
 use Rattle.tool_ports.specs.Ports.{Rose, HasFile, Appends, AppendsPart, file_named}
 use Rattle.elf_image.specs.declared.fault.ElfFault.{ElfFault}
 use Rattle.elf_image.specs.File.{image_of}
@@ -144,13 +146,25 @@ pub record HasRuleFault (call : Call) (fault : RuleFault) : Type 0 where
   pub rules : HasShortFile call.told name text
   pub refused : rules_of text ≡ Err fault
 
--- the count rose, and the last read that failed was of the executable or of the file of rules
-pub record HasReadFault (call : Call) : Type 0 where
-  pub rose : Rose call.reads_before call.reads_after
+-- the last read that failed was of the executable
+pub record HasUnreadExecutable (call : Call) : Type 0 where
   pub request : RequestText
   pub file : List ℕ
   pub asks : AsksToStep call request file
-  pub failed : (call.failed ≡ file) ⊎ (request.suppressions ≡ Some call.failed)
+  pub failed : call.failed ≡ file
+
+-- the executable is accepted, and the last read that failed was of the file of rules
+pub record HasUnreadRules (call : Call) : Type 0 where
+  pub request : RequestText
+  pub file : List ℕ
+  pub bytes : List ℕ
+  pub steps : StepsAccepted call request file bytes
+  pub named : request.suppressions ≡ Some call.failed
+
+-- a read failed that had its turn
+pub record HasReadFault (call : Call) : Type 0 where
+  pub rose : Rose call.reads_before call.reads_after
+  pub unread : HasUnreadExecutable call ⊎ HasUnreadRules call
 
 -- some executable and rules are served
 pub record ServesSome (call : Call) : Type 0 where
@@ -185,6 +199,11 @@ refusal_status (Rules fault) = 4
 refusal_status ReadFault = 5
 refusal_status WriteFault = 6
 refusal_status NoMemory = 7
+
+-- How a call ends whose words can't be read: memory ran out, or one isn't UTF-8, which is a faulty command line.
+abbrev pub unread_words_end : ErrorKind → End
+unread_words_end OutOfMemory = NoMemory
+unread_words_end _ = Usage usage.Words
 
 -- the ends that leave the output as it was and tell one line
 abbrev pub is_refusal : End → Bool

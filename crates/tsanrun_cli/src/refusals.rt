@@ -1,14 +1,17 @@
 // The line of a refusal.
-ghost use Rattle.std.specs.Prelude.{◌≡◌, ◌⊎◌, IfOk, false};
+ghost use Rattle.std.specs.Prelude.{◌≡◌, ◌⊎◌, IfOk, IsOk, false};
 ghost use Rattle.tsanrun_cli.specs.Texts as texts;
 ghost use Rattle.tsanrun_cli.specs.Texts.{refusal_line, is_rules};
+ghost use Rattle.tsanrun_cli.specs.Ends as ends;
 ghost use Rattle.tsanrun_cli.specs.Ends.{refusal_status};
 ghost use Rattle.tsanrun_cli.specs.Lines.{line_bytes};
 
 use crate::End;
+use command_words::UsageFault;
 use elf_image::ElfFault;
 use run_record::NoMemory;
 use std::alloc::Global;
+use std::io::ErrorKind;
 use suppress_rules::RuleFault;
 
 pub fn status_of(end: End) -> u8
@@ -22,6 +25,16 @@ pub fn status_of(end: End) -> u8
         End::ReadFault => 5,
         End::WriteFault => 6,
         End::NoMemory => 7,
+    }
+}
+
+/// How a call ends whose words can't be read.
+pub fn unread_words_end(kind: ErrorKind) -> End
+    ensures { result ≡ ends.unread_words_end kind }
+{
+    match kind {
+        ErrorKind::OutOfMemory => End::NoMemory,
+        _ => End::Usage(UsageFault::Words),
     }
 }
 
@@ -93,7 +106,8 @@ fn fixed_line(end: End) -> &'static str
 }
 
 fn line_of(alloc: Global, end: End) -> Result<Line, NoMemory>
-    ensures { IfOk result (λ line. line_bytes line ≡ refusal_line end) }
+    ensures line { IfOk result (λ line. line_bytes line ≡ refusal_line end) }
+    ensures fixed { is_rules end ≡ false → IsOk result }
 {
     match end {
         End::Rules(fault) => rules_line(alloc, fault),
@@ -111,6 +125,7 @@ pub struct Refused {
 /// The end with its line. Only the line of a fault of the rules takes memory; where there is none left, that is the end.
 pub fn told_refusal(alloc: Global, end: End) -> Refused
     ensures end { (result.end ≡ end) ⊎ (result.end ≡ End.NoMemory) }
+    ensures fixed { is_rules end ≡ false → result.end ≡ end }
     ensures line { line_bytes result.line ≡ refusal_line result.end }
 {
     match line_of(alloc, end) {

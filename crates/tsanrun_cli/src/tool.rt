@@ -1,17 +1,18 @@
 // The top call.
-ghost use Rattle.std.specs.Prelude.{◌≡◌, ◌≢◌, ◌⊎◌, OnOk, OnErr, IsSomeAnd, ℕ, List, Some, true};
+ghost use Rattle.std.specs.Prelude.{◌≡◌, ◌≢◌, ◌⊎◌, OnOk, OnErr, IsSomeAnd, ℕ, List, Some, true, false};
 ghost use Rattle.std.specs.List.{flat_map};
 ghost use Rattle.tool_ports.specs.Ports.{Appends, AppendsPart, Rose, HasCause};
 ghost use Rattle.tsanrun_cli.specs.Ends as ends;
-ghost use Rattle.tsanrun_cli.specs.Ends.{IsCause, IsDone, IsCutOff, end_of, is_refusal};
+ghost use Rattle.tsanrun_cli.specs.Ends.{IsCause, IsDone, IsCutOff, end_of, is_refusal, unread_words_end};
 ghost use Rattle.tsanrun_cli.specs.Work.{call_of, bytes_of, out_bytes, err_bytes};
-ghost use Rattle.tsanrun_cli.specs.Texts.{refusal_line};
+ghost use Rattle.tsanrun_cli.specs.Texts.{refusal_line, is_rules};
 
-use crate::refusals::{status_of as refusal_status, told_refusal};
+use crate::refusals::{status_of as refusal_status, told_refusal, unread_words_end};
 use crate::work::{Told, work};
 use crate::{End, Ended};
 use report_text::status_of;
 use std::alloc::Global;
+use std::io::ErrorKind;
 use tool_ports::{Files, Sink, SinkFailed};
 
 /// Puts bytes, if there are any.
@@ -71,6 +72,7 @@ fn write<O: Sink, E: Sink>(told: &Told, out: &mut O, err: &mut E) -> Result<(), 
 fn refuse<E: Sink>(alloc: Global, end: End, err: &mut E) -> Ended
     requires { is_refusal end ≡ true }
     ensures end { (result.end ≡ end) ⊎ (result.end ≡ End.NoMemory) }
+    ensures fixed { is_rules end ≡ false → result.end ≡ end }
     ensures line { AppendsPart (E.contents err.old) (E.contents err.new) (refusal_line result.end) }
     ensures whole { (Rose (E.faults err.old) (E.faults err.new) → ⊥) → Appends (E.contents err.old) (E.contents err.new) (refusal_line result.end) }
     ensures kept { (result.kept ≡ None) × (result.status ≡ ends.refusal_status result.end) }
@@ -82,6 +84,18 @@ fn refuse<E: Sink>(alloc: Global, end: End, err: &mut E) -> Ended
         end: refused.end,
         kept: None,
     }
+}
+
+/// What is answered where the words of the command line can't be read, by the kind of that error: want of
+/// memory, or else the usage, since a word that isn't UTF-8 is a faulty command line.
+pub fn refuse_words<E: Sink>(alloc: Global, kind: ErrorKind, err: &mut E) -> Ended
+    ensures end { result.end ≡ unread_words_end kind }
+    ensures line { AppendsPart (E.contents err.old) (E.contents err.new) (refusal_line result.end) }
+    ensures whole { (Rose (E.faults err.old) (E.faults err.new) → ⊥)
+        → Appends (E.contents err.old) (E.contents err.new) (refusal_line result.end) }
+    ensures kept { (result.kept ≡ None) × (result.status ≡ ends.refusal_status result.end) }
+{
+    refuse(alloc, unread_words_end(kind), err)
 }
 
 /// The tool's commands that wait for nobody.
@@ -96,6 +110,9 @@ pub fn tool_step<F: Files, O: Sink, E: Sink>(
     // Why it ends so.
     ensures cause { IsCause (call_of words.now (F.contents files.old) (F.faults files.old) (F.faults files.new) (F.failed files.new))
         (O.faults out.old) (O.faults out.new) (E.faults err.old) (E.faults err.new) result.end }
+
+    // Files that are told stay as they were.
+    ensures files { F.contents files.new ≡ F.contents files.old }
 
     // A call that is done keeps a run that its words ask for, each of whose reports stands for a race. The guest's output was
     // appended to one sink, and the text of each report and the last line to the other; of a made program two lines to the first.

@@ -36,7 +36,8 @@ const FILE_LIMIT: usize = 25_165_824;
 
 /// The run that the words ask for.
 pub fn work<F: Files>(alloc: Global, words: &[String], files: &mut F) -> Result<Told, End>
-    ensures { let call = call_of words.now (F.contents files.old) (F.faults files.old) (F.faults files.new) (F.failed files.new) in
+    ensures same { F.contents files.new ≡ F.contents files.old }
+    ensures run { let call = call_of words.now (F.contents files.old) (F.faults files.old) (F.faults files.new) (F.failed files.new) in
         MatchResult result (HasRun call) (Refuses call) }
 {
     let request = match read_words(alloc, words) {
@@ -69,7 +70,8 @@ fn read<F: Files>(files: &mut F, name: &str) -> Result<Vec<u8>, End>
 
 /// Reads the rules of a file, if one is named.
 fn read_rules<F: Files>(alloc: Global, files: &mut F, name: Option<&str>) -> Result<Rules, End>
-    ensures { AreRulesRead (F.contents files.old) (option_map (λ n. n.now) name.entry) (F.faults files.old) (F.faults files.new) (F.failed files.old) (F.failed files.new) result }
+    ensures same { F.contents files.new ≡ F.contents files.old }
+    ensures read { AreRulesRead (F.contents files.old) (option_map (λ n. n.now) name.entry) (F.faults files.old) (F.faults files.new) (F.failed files.old) (F.failed files.new) result }
 {
     let Some(name) = name else {
         return Ok(Rules::none(alloc));
@@ -91,7 +93,8 @@ fn step<F: Files>(
 ) -> Result<Told, End>
     requires limits { AreLimits request.now.limits }
     requires task { (request_text request.now).task ≡ asks_step file.now }
-    ensures { let call = asking (request_text request.now) (F.contents files.old) (F.faults files.old) (F.faults files.new) (F.failed files.new) in
+    ensures same { F.contents files.new ≡ F.contents files.old }
+    ensures run { let call = asking (request_text request.now) (F.contents files.old) (F.faults files.old) (F.faults files.new) (F.failed files.new) in
         MatchResult result (HasRun call) (Refuses call) }
 {
     let bytes = read(files, file)?;

@@ -1,6 +1,6 @@
 // Words and files by hand, from the instruction formats of the RISC-V unprivileged manual and from
 // the layout of ELF64.
-use crate::{AssemblyError, Form, assemble};
+use crate::{AssemblyError, DebugSection, Form, assemble};
 use std::test::Fail;
 
 fn word_at(bytes: &[u8], at: u16) -> Option<u32> {
@@ -156,11 +156,11 @@ fn a_named_file_has_its_sections(rt: HostRuntime) -> Result<(), Fail> {
         rt.alloc(),
         text,
         &Form::Named {
-            lines: Some(b"12345"),
+            debug: &[(DebugSection::Line, b"12345".as_slice())],
         },
     )?;
-    // The file, its five section headers, three symbols, and 8, 39 and 5 bytes.
-    assert_eq!(rt; bytes.len(), 280 + 320 + 72 + 52);
+    // The file, its five section headers, three symbols, and 8, 66 and 5 bytes.
+    assert_eq!(rt; bytes.len(), 280 + 320 + 72 + 79);
     for (place, long) in [
         (40, 280),
         // .symtab and .strtab
@@ -170,8 +170,8 @@ fn a_named_file_has_its_sections(rt: HostRuntime) -> Result<(), Fail> {
         (440, 8),
         // .shstrtab and .debug_line
         (496, 680),
-        (504, 39),
-        (560, 719),
+        (504, 66),
+        (560, 746),
         (568, 5),
         // main and a
         (632, 0x10000),
@@ -185,7 +185,7 @@ fn a_named_file_has_its_sections(rt: HostRuntime) -> Result<(), Fail> {
         bytes.get(672..680).ok_or("names")?,
         b"\0main\0a\0".as_slice()
     );
-    assert_eq!(rt; bytes.get(719..).ok_or("lines")?, b"12345".as_slice());
+    assert_eq!(rt; bytes.get(746..).ok_or("lines")?, b"12345".as_slice());
     Ok(())
 }
 

@@ -1,57 +1,61 @@
 // Names, files and lines of places, and rules that suppress reports by them.
 use super::reports::{BY_MAIN, BY_T1, RACING};
 use super::*;
+use crate::DebugSection;
 
 /// One unit of version 4: line 10 of src/a.c from 0x10000 on, line 20 from 0x1003c on, and the end at
 /// 0x10068. The byte at 14 is the unit's line_range.
-const LINES: [u8; 65] = [
+const LINES: &[u8] = &[
     0x3d, 0, 0, 0, 4, 0, 0x1f, 0, 0, 0, 1, 1, 1, 0xfb, 0x0e, 0x0d, 0, 1, 1, 1, 1, 0, 0, 0, 1, 0, 0,
     1, 0x73, 0x72, 0x63, 0, 0, 0x61, 0x2e, 0x63, 0, 1, 0, 0, 0, 0, 9, 2, 0, 0, 1, 0, 0, 0, 0, 0, 3,
     9, 1, 2, 0x3c, 3, 0x0a, 1, 2, 0x2c, 0, 1, 1,
 ];
 
 /// The same with a line_range of 0, which is malformed.
-const MALFORMED: [u8; 65] = [
+const MALFORMED: &[u8] = &[
     0x3d, 0, 0, 0, 4, 0, 0x1f, 0, 0, 0, 1, 1, 1, 0xfb, 0, 0x0d, 0, 1, 1, 1, 1, 0, 0, 0, 1, 0, 0, 1,
     0x73, 0x72, 0x63, 0, 0, 0x61, 0x2e, 0x63, 0, 1, 0, 0, 0, 0, 9, 2, 0, 0, 1, 0, 0, 0, 0, 0, 3, 9,
     1, 2, 0x3c, 3, 0x0a, 1, 2, 0x2c, 0, 1, 1,
 ];
 
+static LINE_TABLE: [(DebugSection, &[u8]); 1] = [(DebugSection::Line, LINES)];
+
+static MALFORMED_TABLE: [(DebugSection, &[u8]); 1] = [(DebugSection::Line, MALFORMED)];
+
+/// The race with functions, files and lines.
+pub const NAMED_RACE: &[Race<'static>] = &[Race {
+    mine: BY_T1,
+    stack: &[("a src/a.c:20", 0x10054)],
+    previous: BY_MAIN,
+    previous_stack: &[("main src/a.c:10", 0x10028)],
+}];
+
+/// The race with functions alone.
+pub const RACE_WITHOUT_LINES: &[Race<'static>] = &[Race {
+    mine: BY_T1,
+    stack: &[("a ??:0", 0x10054)],
+    previous: BY_MAIN,
+    previous_stack: &[("main ??:0", 0x10028)],
+}];
+
 static NAMED: [Row<'static>; 3] = [
     Row {
-        form: Form::Named {
-            lines: Some(&LINES),
-        },
-        races: &[Race {
-            mine: BY_T1,
-            stack: &[("a src/a.c:20", 0x10054)],
-            previous: BY_MAIN,
-            previous_stack: &[("main src/a.c:10", 0x10028)],
-        }],
+        form: Form::Named { debug: &LINE_TABLE },
+        races: NAMED_RACE,
         ..RACING
     },
     // A malformed unit gives no lines, and the names stay.
     Row {
         form: Form::Named {
-            lines: Some(&MALFORMED),
+            debug: &MALFORMED_TABLE,
         },
-        races: &[Race {
-            mine: BY_T1,
-            stack: &[("a ??:0", 0x10054)],
-            previous: BY_MAIN,
-            previous_stack: &[("main ??:0", 0x10028)],
-        }],
+        races: RACE_WITHOUT_LINES,
         ..RACING
     },
     // A file without lines.
     Row {
-        form: Form::Named { lines: None },
-        races: &[Race {
-            mine: BY_T1,
-            stack: &[("a ??:0", 0x10054)],
-            previous: BY_MAIN,
-            previous_stack: &[("main ??:0", 0x10028)],
-        }],
+        form: Form::NAMED,
+        races: RACE_WITHOUT_LINES,
         ..RACING
     },
 ];
@@ -76,9 +80,7 @@ const FOO: &[Race<'static>] = &[Race {
 
 const FOO_ROW: Row<'static> = Row {
     program: "main: N(foo1) E(write8,0) T; foo1: E(write8,0) T",
-    form: Form::Named {
-        lines: Some(&LINES),
-    },
+    form: Form::Named { debug: &LINE_TABLE },
     options: WITH_RULES,
     summary: (0, 1, 0, 2, "all ended"),
     ..ROW
@@ -140,7 +142,7 @@ fn rules_suppress_reports(rt: HostRuntime) -> Result<(), Fail> {
 fn other_reports_are_told_beside_suppressed_ones(rt: HostRuntime) -> Result<(), Fail> {
     let row = Row {
         program: "main: N(foo) N(bar) E(write8,0) E(write8,8) T; foo: E(write8,0) T; bar: E(write8,8) T",
-        form: Form::Named { lines: None },
+        form: Form::NAMED,
         options: WITH_RULES,
         rules: "race:^foo$",
         races: &[Race {
@@ -163,7 +165,7 @@ const LOOPS: &str =
 static SIXTY: [Row<'static>; 2] = [
     Row {
         program: LOOPS,
-        form: Form::Named { lines: None },
+        form: Form::NAMED,
         options: WITH_RULES,
         rules: "thread:*\nrace:^foo1$\nrace_top:^main_loop$",
         summary: (0, 60, 0, 2, "all ended"),
@@ -171,7 +173,7 @@ static SIXTY: [Row<'static>; 2] = [
     },
     Row {
         program: LOOPS,
-        form: Form::Named { lines: None },
+        form: Form::NAMED,
         options: WITH_RULES,
         rules: "race:^foo1$",
         races: &[Race {

@@ -186,7 +186,7 @@ fn ordered_and_racing_accesses_are_told(rt: HostRuntime) -> Result<(), Fail> {
     Ok(())
 }
 
-static LOCKS: [Row<'static>; 3] = [
+static LOCKS: [Row<'static>; 4] = [
     Row {
         program: "main: N(a) E(post_lock,8) E(write8,0) E(pre_unlock,8) T; a: E(write8,0) T",
         races: &[Race {
@@ -207,6 +207,19 @@ static LOCKS: [Row<'static>; 3] = [
             stack: &[(UNKNOWN, 0x1009c)],
             previous: "write of size 8 at 0x0000000001000000 by main thread (mutexes: read 0x0000000001000008)",
             previous_stack: &[(UNKNOWN, 0x1004c)],
+        }],
+        summary: (1, 0, 0, 2, "all ended"),
+        status: 66,
+        ..ROW
+    },
+    // A lock that is taken twice round another: the last one goes.
+    Row {
+        program: "main: N(a) E(post_lock,8) E(post_lock,16) E(post_lock,8) E(pre_unlock,8) E(write8,0) T; a: E(write8,0) T",
+        races: &[Race {
+            mine: BY_T1,
+            stack: &[(UNKNOWN, 0x100e4)],
+            previous: "write of size 8 at 0x0000000001000000 by main thread (mutexes: write 0x0000000001000008, write 0x0000000001000010)",
+            previous_stack: &[(UNKNOWN, 0x100b8)],
         }],
         summary: (1, 0, 0, 2, "all ended"),
         status: 66,

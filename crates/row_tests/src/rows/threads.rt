@@ -117,7 +117,7 @@ w8:     addi x17,x0,24  ecall  jalr x0,0(x1)
 fn a_lock_keeps_a_count(rt: HostRuntime) -> Result<(), Fail> {
     let row = Row {
         program: COUNTER,
-        form: Form::Named { lines: None },
+        form: Form::NAMED,
         out: b"\xa0\x0f",
         summary: (0, 0, 0, 4, "exit 0"),
         ..ROW

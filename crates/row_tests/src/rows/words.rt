@@ -117,7 +117,7 @@ fn unread_rules_are_told(rt: HostRuntime) -> Result<(), Fail> {
     Ok(())
 }
 
-/// A faulty executable is told before the rules are read, and long rules before their faults.
+/// A faulty or too long executable is told before the rules are read, and long rules before their faults.
 #[test]
 fn files_are_refused_in_order(rt: HostRuntime) -> Result<(), Fail> {
     let alloc = rt.alloc();
@@ -137,8 +137,13 @@ fn files_are_refused_in_order(rt: HostRuntime) -> Result<(), Fail> {
         line,
         3,
     )?;
-    let file = assemble(alloc, "main: X(0)", &Form::PLAIN)?;
+    let beside_none = ["step", "p", "--suppressions=none"];
+    let refused = call(alloc, &beside_none, b"")?;
+    check(&rt, alloc, &refused, b"", line, 3)?;
     let long = vec![in alloc; b'x'; 25_165_825]?;
+    let too_long = call(alloc, &beside_none, &long)?;
+    check(&rt, alloc, &too_long, b"", "tsanrun: file too long\n", 3)?;
+    let file = assemble(alloc, "main: X(0)", &Form::PLAIN)?;
     let ports = Ports {
         file: &file,
         rules: &long,

@@ -3,16 +3,16 @@ use Rattle.tsanrun_cli.proofs.tool.tool_step.Goals as goal
 
 pub returns-in-Err-clause-complete : goal.returns-in-Err-clause-complete
 returns-in-Err-clause-complete g c = λ told end is to reads out err.
-    refused_complete _ told _ _ _ _ c.in-Err.end c.refuse.result.end end is c.refuse.ensures.end c.in-Err.ensures to reads out err
+    refused_complete _ told _ _ _ _ c.in-Err.end c.refuse.result.end end is c.refuse.ensures.end c.in-Err.ensures.run to reads out err
 
 pub returns-in-Ok-write-clause-complete : goal.returns-in-Ok-write-clause-complete
 returns-in-Ok-write-clause-complete g c = λ told end is to reads out err.
-    let run = c.in-Ok.ensures in
+    let run = c.in-Ok.ensures.run in
     complete_from _ told is _ _ _ _ _ end (record { request = run.request; bytes = run.bytes; rules = run.run.rules; serves = run.run.serves }) to reads out err
 
 pub returns-in-Err-write-clause-cut : goal.returns-in-Err-write-clause-cut
 returns-in-Err-write-clause-cut g c = λ e.
-    let run = c.in-Ok.ensures in
+    let run = c.in-Ok.ensures.run in
     record {
       request = run.request;
       bytes = run.bytes;
