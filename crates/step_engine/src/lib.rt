@@ -4,10 +4,13 @@
 //! (`run_laws`) and of reports (`report_laws`). A run goes by rounds: each gives one live thread so many
 //! instructions, and its reports are told at its end; where the thread was starved of a slot a new era
 //! begins. The command above uses one clause: what `run_plan` gives is a run of the file by the limits
-//! and the plan, with the reports of its history.
+//! and the plan, with the reports of its history. `seen_races_law` says
+//! that no race which an access of a run sees is passed over.
 #![tactic(auto)]
 
 mod engine;
+mod laws;
 mod turns;
 
 pub use engine::run_plan;
+pub use laws::seen_races_law;
