@@ -1,7 +1,7 @@
 // The clock of a guest. The machine has none, so this one is moved by those who use it: by a millisecond
 // each time that it is read, and, where threads wait for a time, to the earliest of these times once the
-// thread that waits for it has looked often enough for others to get on: about 3,000 instructions for a
-// millisecond, 12,000 for a second. So threads wake in the order of their times, and a long sleep gives
+// thread that waits for it has looked often enough for others to get on: about 4,000 instructions for a
+// millisecond, 15,000 for a second. So threads wake in the order of their times, and a long sleep gives
 // other threads more room than a short one.
 #include <errno.h>
 #include <sched.h>
@@ -20,7 +20,7 @@ static struct guard moving;
 // CLOCK_REALTIME begins with the year 2026.
 #define BEGINNING 1767225600
 
-enum { FEWEST_LOOKS = 20, LOOKS_FOR_EACH_DOUBLING = 9 };
+enum { FEWEST_LOOKS = 40, LOOKS_FOR_EACH_DOUBLING = 16 };
 
 uint64_t __kit_clock_now(void)
 {

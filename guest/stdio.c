@@ -75,10 +75,15 @@ int putchar(int byte)
     return fputc(byte, stdout);
 }
 
+// Puts bytes as they are: nothing was gathered before, since each call ends with a flush.
 static void put_all(const char *bytes, size_t size, FILE *stream)
 {
-    for (size_t i = 0; i < size; i += 1) {
-        put_byte(bytes[i], stream);
+    if (stream == stdout || stream == stderr) {
+        __kit_put(bytes, size);
+    } else {
+        for (size_t i = 0; i < size; i += 1) {
+            put_byte(bytes[i], stream);
+        }
     }
 }
 

@@ -70,7 +70,7 @@ long __kit_thread_make(void *(*function)(void *), void *argument, int state, uin
     guard_take(&making);
     long made = FULL;
     struct thread *thread = stack_for(creator);
-    if (thread != NULL) {
+    if (thread != NULL && made_threads + 1 < MOST_THREADS) {
         struct thread former = *thread;
         int is_fresh = thread->number == 0;
         thread->function = function;
@@ -80,6 +80,8 @@ long __kit_thread_make(void *(*function)(void *), void *argument, int state, uin
         thread->ended = 0;
         uint8_t *end = stacks[thread->slot - 1] + GUEST_STACK_BYTES;
         thread->state = (uint32_t)state;
+        // The thread may ask for itself before the call is answered here.
+        slot_of[thread->number] = (uint16_t)thread->slot;
         if (where != NULL) {
             *where = thread->number;
         }
@@ -87,9 +89,9 @@ long __kit_thread_make(void *(*function)(void *), void *argument, int state, uin
         if (made >= 0) {
             made_threads += 1;
             used_stacks += is_fresh;
-            slot_of[made] = (uint16_t)thread->slot;
             next_slot = thread->slot;
         } else {
+            slot_of[thread->number] = 0;
             *thread = former;
         }
     }

@@ -51,6 +51,12 @@ static void *wait_then_same(void *argument)
     return argument;
 }
 
+static void *detach_itself(void *argument)
+{
+    check(pthread_detach(pthread_self()) == 0);
+    return argument;
+}
+
 static void try_threads(void)
 {
     pthread_t one, other;
@@ -77,6 +83,9 @@ static void try_threads(void)
     check(pthread_detach(one) == 0 && pthread_detach(one) == EINVAL && pthread_join(one, NULL) == EINVAL);
     sem_post(&go);
     usleep(20000);
+    start(&one, detach_itself, NULL);
+    usleep(20000);
+    check(pthread_join(one, NULL) == EINVAL);
     pthread_attr_t attributes;
     int state = -1;
     check(pthread_attr_init(&attributes) == 0);
@@ -338,7 +347,8 @@ static char order[8];
 
 static void *sleep_and_mark(void *text)
 {
-    usleep((useconds_t)(*(char *)text - '0') * 100000);
+    // so long that the others have begun, also with turns of 10,000 instructions
+    sleep((unsigned)(*(char *)text - '0') * 1000);
     pthread_mutex_lock(&mutex);
     strcat(order, text);
     pthread_mutex_unlock(&mutex);

@@ -1,5 +1,5 @@
 -- Instructions that touch registers alone are steps without events and objects.
-use Rattle.std.proofs.Common.{◌≡◌, ℕ, zero, suc, ◌<◌, length, true, false, List, [], ◌∷◌, ◌++◌, Option, Some, None, slice_get, slice_set, refl, ap, sym, ◌∙◌, subst, Bool, not}
+use Rattle.std.proofs.Common.{◌≡◌, ℕ, zero, suc, ◌<◌, length, true, false, List, [], ◌∷◌, ◌++◌, Option, Some, None, slice_get, slice_set, refl, ap, sym, ◌∙◌, subst, Bool, not, arith}
 use Rattle.std.specs.Prelude.{◌||◌, option_and_then, if◌then◌else◌}
 use Rattle.run_record.specs.declared.event.Event.TheVariants.{Begin}
 use Rattle.rv_decode.specs.declared.instr.Instr.{Instr}
@@ -15,7 +15,7 @@ use Rattle.bare_machine.specs.World.{World}
 use Rattle.bare_machine.specs.Requests.{Request, done, needs, effect_request, instruction_request, word_request, request}
 use Rattle.bare_machine.specs.Preview.{thread_needs}
 use Rattle.bare_machine.specs.Step.{Step, serve, thread_step, with_registers, first_events}
-use Rattle.bare_machine.specs.Locals.{IsLocalStep, AreLocalSteps, NoStep, OneMore}
+use Rattle.bare_machine.specs.Locals.{IsLocalStep, AreLocalSteps, NoStep, OneMore, MakesLocals}
 use Rattle.bare_machine.proofs.StepLemmas.{within, get_set, set_set, set_same}
 
 -- ---- one instruction
@@ -86,3 +86,7 @@ module _ (file : List ℕ) (tid : ℕ) (w : World) (t : Thread) (here : slice_ge
 -- where none is made, the thread stays as it is
 pub locals_none : (file : List ℕ) (tid : ℕ) (w : World) (t : Thread) → slice_get w.threads tid ≡ Some t → AreLocalSteps file tid w zero (record w { threads = slice_set w.threads tid t })
 locals_none file tid w t here = subst (AreLocalSteps file tid w zero) (ap (λ (ts : List Thread). record w { threads = ts }) (sym (set_same w.threads tid t here))) NoStep
+
+pub makes_none : (file : List ℕ) (t : Thread) → MakesLocals file t zero t
+unfolding locals
+makes_none file t = record { thread = refl; registers = refl; began = λ some. absurd (omega arith) }

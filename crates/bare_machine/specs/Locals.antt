@@ -1,7 +1,9 @@
 -- Steps that touch registers alone.
-use Rattle.std.specs.Prelude.{◌≡◌, ℕ, zero, suc, false, List, [], None}
+use Rattle.std.specs.Prelude.{◌≡◌, ◌<◌, ℕ, zero, suc, true, false, List, [], Some, None}
+use Rattle.guest_code.specs.Locals.{locals}
+use Rattle.bare_machine.specs.declared.thread.Thread.{Thread}
 use Rattle.bare_machine.specs.World.{World}
-use Rattle.bare_machine.specs.Step.{step}
+use Rattle.bare_machine.specs.Step.{step, with_registers}
 use Rattle.bare_machine.specs.Preview.{needs_slot}
 
 -- a step of the thread without events and without an object, for which it needs no slot
@@ -14,3 +16,9 @@ pub record IsLocalStep (file : List ℕ) (tid : ℕ) (old new : World) : Type 0 
 pub data AreLocalSteps (file : List ℕ) (tid : ℕ) (first : World) : ℕ → World → Type 0 where
   NoStep : AreLocalSteps file tid first zero first
   OneMore : (n : ℕ) (old new : World) → AreLocalSteps file tid first n old → IsLocalStep file tid old new → AreLocalSteps file tid first (suc n) new
+
+-- The thread makes so many instructions of the file that touch its registers alone. Its first instruction is none of them.
+pub record MakesLocals (file : List ℕ) (old : Thread) (n : ℕ) (new : Thread) : Type 0 where
+  pub thread : new ≡ with_registers old new.regs
+  pub registers : locals file n old.regs ≡ Some new.regs
+  pub began : 0 < n → old.began ≡ true

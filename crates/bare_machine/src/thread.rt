@@ -2,7 +2,7 @@
 ghost use Rattle.std.specs.Prelude.{◌≡◌, ◌≤◌, ℕ, Some, slice_get, slice_set};
 ghost use Rattle.bare_machine.specs.World as worlds;
 ghost use Rattle.bare_machine.specs.World.{World};
-ghost use Rattle.bare_machine.specs.Locals.{AreLocalSteps};
+ghost use Rattle.bare_machine.specs.Locals.{AreLocalSteps, MakesLocals};
 
 use guest_code::Code;
 use rv_exec::Regs;
@@ -37,7 +37,8 @@ impl Thread {
     /// Makes instructions while they touch the thread's registers alone, at most so many, from its second instruction on. It
     /// tells how many it made: in a world that has the thread, each is a step without events and objects.
     pub fn run_locals(&mut self, code: &Code<'_>, most: u32) -> u32
-        ensures made { (tid : ℕ) (w : World) → slice_get w.threads tid ≡ Some self.old → AreLocalSteps code.now tid w result (record w { threads = slice_set w.threads tid self.new }) }
+        ensures made { MakesLocals code.now self.old result self.new }
+        ensures steps { (tid : ℕ) (w : World) → slice_get w.threads tid ≡ Some self.old → AreLocalSteps code.now tid w result (record w { threads = slice_set w.threads tid self.new }) }
         ensures few { result ≤ most }
     {
         if !self.began {

@@ -10,5 +10,6 @@ mod block;
 mod code;
 
 pub use code::Code;
+
 #[cfg(test)]
 mod tests;

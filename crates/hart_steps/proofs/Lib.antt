@@ -1,2 +1,3 @@
 pub mod StripeLemmas
 pub mod DeskLemmas
+pub mod LocalTurns

@@ -1,18 +1,19 @@
 // A thread's own state.
-ghost use Rattle.std.specs.Prelude.{◌≡◌, ℕ, ◌<◌, [], Bool, List, Some, length, slice_get};
+ghost use Rattle.std.specs.Prelude.{◌≡◌, ℕ, ◌<◌, ◌≤◌, [], Bool, List, Some, length, slice_get};
 ghost use Rattle.bare_machine.specs.World.{World};
 ghost use Rattle.bare_machine.specs.Preview as previews;
 ghost use Rattle.bare_machine.specs.Asked.{IsSound, IsShallow, IsWithin};
 ghost use Rattle.place_turns.specs.Places.{Value};
 ghost use Rattle.place_turns.specs.Turns.{bare_turn, arrives};
 ghost use Rattle.hart_steps.specs.Asked.{Asks, IsAlone};
-ghost use Rattle.hart_steps.specs.Harts.{absent, local_of, turn, leaves};
+ghost use Rattle.hart_steps.specs.Harts.{absent, local_of, turn, leaves, AreLocalTurns};
 ghost use Rattle.hart_steps.specs.Desks.{desk_value};
 
 use crate::MachineDesk;
 use bare_machine::{Request, Thread, begin_thread, return_thread};
 use elf_image::Image;
 use entry_calls::CallEvents;
+use guest_code::Code;
 
 /// What a thread that has arrived keeps itself: its registers and how far it is, and the granule that it reserved last,
 /// where no conditional store has followed.
@@ -32,6 +33,15 @@ impl Hart {
             thread: desk.made.as_slice()[tid as usize],
             reserved: None,
         }
+    }
+
+    /// Makes the thread's instructions while they touch its registers alone, at most so many, from its second instruction on. It
+    /// tells how many it made: each is a turn that leaves the value of the place and tells nothing.
+    pub fn run_locals(&mut self, code: &Code<'_>, most: u32) -> u32
+        ensures made { (harts tid : ℕ) (v : Value) → AreLocalTurns code.now harts tid v self.old result self.new }
+        ensures few { result ≤ most }
+    {
+        self.thread.run_locals(code, most)
     }
 
     /// What the thread's next instruction comes to. If it is done then, the thread has its registers, and else it is as it

@@ -1,5 +1,4 @@
 pub mod Watched
-pub mod Traced
 pub mod Walk
 pub mod Parts
 pub mod Lending

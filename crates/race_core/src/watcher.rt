@@ -8,7 +8,6 @@ ghost use Rattle.run_laws.specs.Candidates.{is_race};
 ghost use Rattle.shadow_word.specs.Cells.{cell_in};
 ghost use Rattle.shadow_word.specs.Decisions.{AreInClock};
 ghost use Rattle.race_core.specs.Watched.{AreWatcherLimits, CanBeNoted, IsWatched, IsLabel, new_watched, with_room, noted, labelled, unlabelled, next_label, raised, in_era, side_of, cell_of};
-ghost use Rattle.race_core.specs.Traced.{traced_of};
 ghost use Rattle.race_core.specs.Walk.{planned};
 ghost use Rattle.run_laws.specs.Window.{Labelled};
 ghost use Rattle.trace_parts.specs.Spelling.{told, IsTraceable};
@@ -96,8 +95,25 @@ impl Watcher {
         requires count { self.old.trace.count < 2 ^ 64 - 1 }
         ensures { self.new ≡ noted self.old event.now }
     {
-        if let Some(traced) = traced(event) {
-            self.trace.push(traced);
+        match *event {
+            Event::Access {
+                place,
+                addr,
+                size,
+                read,
+                atomic,
+            } => self.trace.push(TraceEvent::Access {
+                place,
+                addr,
+                size,
+                read,
+                atomic,
+            }),
+            Event::Enter(pc) => self.trace.push(TraceEvent::Enter { pc }),
+            Event::Leave => self.trace.push(TraceEvent::Leave),
+            Event::Lock { addr, read } => self.trace.push(TraceEvent::Lock { addr, read }),
+            Event::Unlock { addr, read } => self.trace.push(TraceEvent::Unlock { addr, read }),
+            _ => {}
         }
     }
 
@@ -290,31 +306,5 @@ fn event_of(label: Label) -> TraceEvent
         sid: label.sid,
         epoch: label.epoch,
         era: label.era,
-    }
-}
-
-/// What is traced of an event.
-fn traced(event: &Event) -> Option<TraceEvent>
-    ensures { result ≡ traced_of event.now }
-{
-    match *event {
-        Event::Access {
-            place,
-            addr,
-            size,
-            read,
-            atomic,
-        } => Some(TraceEvent::Access {
-            place,
-            addr,
-            size,
-            read,
-            atomic,
-        }),
-        Event::Enter(pc) => Some(TraceEvent::Enter { pc }),
-        Event::Leave => Some(TraceEvent::Leave),
-        Event::Lock { addr, read } => Some(TraceEvent::Lock { addr, read }),
-        Event::Unlock { addr, read } => Some(TraceEvent::Unlock { addr, read }),
-        _ => None,
     }
 }

@@ -165,6 +165,8 @@ impl Ring {
     }
 
     /// The next part begins. The current one is full, so there is room for this.
+    #[cold]
+    #[inline(never)]
     fn begin_part(&mut self)
         requires sound { IsRing self.old }
         requires full { self.old.part_words < vec_len self.old.current.words + 3 * self.old.spare }
@@ -181,13 +183,14 @@ impl Ring {
     }
 
     /// One more event in the current part, where its words fit.
+    #[inline(always)]
     fn append(&mut self, event: &TraceEvent, words: &Words)
         requires spare { 0 < self.old.spare }
         requires room { vec_len self.old.current.words + length words.now ≤ vec_capacity self.old.current.words }
         requires now_room { HasRoom 1 self.old.standing }
         ensures { Appends event.now words.now self.old self.new }
     {
-        let _written = self.current.words.extend_from_slice(words.as_slice());
+        words.append_to(&mut self.current.words);
         let _noted = self.standing.note(event);
         self.current.labels.include_event(event);
         self.previous = place_after(self.previous, event);
@@ -195,6 +198,7 @@ impl Ring {
     }
 
     /// One more event: in the current part, or in a new one where its words don't fit there.
+    #[inline(always)]
     pub(crate) fn push(&mut self, event: &TraceEvent)
         requires sound { IsRing self.old }
         requires begins { BeginsEmpty self.old }
@@ -239,6 +243,7 @@ impl Ring {
 }
 
 /// The place of the last access.
+#[inline(always)]
 pub(crate) fn place_after(previous: u64, event: &TraceEvent) -> u64
     ensures { result ≡ place_then previous event.now }
 {

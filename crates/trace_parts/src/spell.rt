@@ -1,5 +1,5 @@
 // Events as words, and words as events.
-ghost use Rattle.std.specs.Prelude.{◌≡◌, ℕ, ◌+◌, ◌*◌, ◌/◌, ◌%◌, ◌^◌, ◌<◌, ◌≤◌, List, [], ◌∷◌, ◌++◌, length, IfSome, Some, IsTrue};
+ghost use Rattle.std.specs.Prelude.{◌≡◌, ℕ, ◌+◌, ◌*◌, ◌/◌, ◌%◌, ◌^◌, ◌<◌, ◌≤◌, List, [], ◌∷◌, ◌++◌, length, vec_len, vec_capacity, IfSome, Some, IsTrue};
 ghost use Rattle.run_laws.specs.Window as window;
 ghost use Rattle.trace_parts.specs.Spelling as spelling;
 ghost use Rattle.trace_parts.specs.Spelling.{IsTraceable, IsSpelledAt};
@@ -28,6 +28,7 @@ pub struct Words {
 /// wherever it fits. In three words, bits 8 to 24 are the size, then come the place and the address.
 /// A Lock or Unlock has bit 3 for a read lock, and then the address; an Enter has then its address.
 /// A Label has its slot in bits 8 to 15, its epoch in bits 16 to 29 and its era in bits 32 to 63.
+#[inline(always)]
 #[tactic(auto, unfolding(crate::specs::Spelling::spelling))]
 pub fn encode(event: &TraceEvent, previous: u64) -> Words
     requires { IsTraceable event.now }
@@ -188,19 +189,36 @@ impl Model for Words {
 }
 
 impl Words {
+    #[inline(always)]
     pub fn as_slice(&self) -> &[u64]
         ensures { result.now ≡ self.now }
     {
         &self.words[..usize::from(self.count)]
     }
 
+    #[inline(always)]
     pub fn count(&self) -> u8
         ensures { result ≡ length self.now }
     {
         self.count
     }
+
+    /// Appends the words, for which there is room.
+    #[inline(always)]
+    pub(crate) fn append_to(&self, words: &mut Vec<u64>)
+        requires { vec_len words.old + length self.now ≤ vec_capacity words.old }
+        ensures items { words.new.items ≡ words.old.items ++ self.now }
+        ensures capacity { vec_capacity words.old ≤ vec_capacity words.new }
+    {
+        if self.count == 1 {
+            let _written = words.push(self.words[0]);
+        } else {
+            let _written = words.extend_from_slice(self.as_slice());
+        }
+    }
 }
 
+#[inline(always)]
 fn one(first: u64) -> Words
     ensures { result ≡ first ∷ [] }
 {
@@ -210,6 +228,7 @@ fn one(first: u64) -> Words
     }
 }
 
+#[inline(always)]
 fn two(first: u64, second: u64) -> Words
     ensures { result ≡ first ∷ second ∷ [] }
 {
@@ -219,6 +238,7 @@ fn two(first: u64, second: u64) -> Words
     }
 }
 
+#[inline(always)]
 fn three(first: u64, second: u64, third: u64) -> Words
     ensures { result ≡ first ∷ second ∷ third ∷ [] }
 {
@@ -229,6 +249,7 @@ fn three(first: u64, second: u64, third: u64) -> Words
 }
 
 /// How far a place is from the previous one, as a signed number of 64 bits, plus 131,072.
+#[inline(always)]
 fn distance(previous: u64, place: u64) -> u64
     ensures { result ≡ window.distance previous place }
 {
@@ -237,6 +258,7 @@ fn distance(previous: u64, place: u64) -> u64
 
 /// An access takes one word where its size is 1, 2, 4 or 8, its address is below 2^41, and its place
 /// is a multiple of four bytes from 131,072 before the previous place to 131,068 behind it.
+#[inline(always)]
 fn is_short(previous: u64, place: u64, addr: u64, size: u32) -> bool
     ensures { result ≡ window.is_short previous place addr size }
 {
@@ -247,6 +269,7 @@ fn is_short(previous: u64, place: u64, addr: u64, size: u32) -> bool
         && far <= 262_140
 }
 
+#[inline(always)]
 fn power_of(size: u32) -> u64
     ensures value { result ≡ spelling.power_of size }
     ensures small { result < 4 }
@@ -259,6 +282,7 @@ fn power_of(size: u32) -> u64
     }
 }
 
+#[inline(always)]
 fn short_word(previous: u64, place: u64, addr: u64, size: u32, read: bool, atomic: bool) -> u64
     requires { IsTrue (window.is_short previous place addr size) }
     ensures { result ≡ spelling.short_word previous place addr size read atomic }
@@ -270,6 +294,7 @@ fn short_word(previous: u64, place: u64, addr: u64, size: u32, read: bool, atomi
         + addr * 0x80_0000
 }
 
+#[inline(always)]
 fn long_word(size: u32, read: bool, atomic: bool) -> u64
     requires { size ≤ 65536 }
     ensures { result ≡ spelling.long_word size read atomic }
@@ -277,6 +302,7 @@ fn long_word(size: u32, read: bool, atomic: bool) -> u64
     2 + u64::from(read) * 8 + u64::from(atomic) * 16 + u64::from(size) * 256
 }
 
+#[inline(always)]
 fn lock_word(kind: u64, read: bool) -> u64
     requires { kind < 8 }
     ensures { result ≡ spelling.lock_word kind read }
@@ -284,6 +310,7 @@ fn lock_word(kind: u64, read: bool) -> u64
     kind + u64::from(read) * 8
 }
 
+#[inline(always)]
 fn label_word(sid: u8, epoch: u16, era: u32) -> u64
     requires { epoch ≤ 16383 }
     ensures { result ≡ spelling.label_word sid epoch era }

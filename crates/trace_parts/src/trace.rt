@@ -74,6 +74,7 @@ impl Trace {
     }
 
     /// One more event. It takes no memory.
+    #[inline(always)]
     pub fn push(&mut self, event: TraceEvent)
         requires traceable { IsTraceable event }
         requires spare { 0 < self.old.spare }

@@ -35,9 +35,9 @@ static struct logger *get_logger(void)
 static void log_line(void)
 {
     struct logger *logger = get_logger();
-    pthread_mutex_lock(&logger->mutex); // race
-    logger->lines++;
-    pthread_mutex_unlock(&logger->mutex);
+    pthread_mutex_lock(&logger->mutex);   // race
+    logger->lines++;                      // race
+    pthread_mutex_unlock(&logger->mutex); // race
 }
 
 static void *work(void *arg)

@@ -1,4 +1,4 @@
-use Rattle.std.proofs.Common.{arith}
+use Rattle.std.proofs.Common.{◌*◌, arith}
 use Rattle.elf_image.specs.File.{granule_of, granule_address}
 use Rattle.elf_image.proofs.MemoryLaws.{granule_address-of}
 use Rattle.run_laws.specs.Faithful.{OneByOne}
