@@ -3,7 +3,7 @@
 
    `__global_pointer$` isn't defined, so that no linker makes accesses relative to x3: it is 0 in
    each thread. Debug sections other than line tables and the texts that these name are dropped,
-   since nothing reads them; the line tables of GCC and clang name texts of .debug_line_str alone. */
+   since nothing reads them. */
 OUTPUT_ARCH(riscv)
 ENTRY(_start)
 
@@ -57,9 +57,9 @@ SECTIONS
     /DISCARD/ :
     {
         /* a frame in the C library has its function and no line */
-        *libc.a:*(.debug_line .debug_line_str)
+        *libc.a:*(.debug_line .debug_line_str .debug_str)
         *(.debug_info .debug_abbrev .debug_aranges .debug_ranges .debug_rnglists .debug_loc)
-        *(.debug_loclists .debug_str .debug_str_offsets .debug_addr .debug_frame .debug_names)
+        *(.debug_loclists .debug_str_offsets .debug_addr .debug_frame .debug_names)
         *(.debug_pubnames .debug_pubtypes .debug_gnu_pubnames .debug_gnu_pubtypes .debug_macro)
         *(.eh_frame .comment .riscv.attributes .note .note.* .llvm_addrsig)
     }
