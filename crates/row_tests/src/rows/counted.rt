@@ -1,5 +1,5 @@
 // How often a call reads and puts, and what it answers where its words can't be read.
-use super::reports::RACING;
+use super::reports::RACING_PROGRAM;
 use super::*;
 use std::io::ErrorKind;
 use tool_ports::{Files, Sink};
@@ -39,7 +39,7 @@ static COUNTED: [Counted<'static>; 7] = [
     // So is a report.
     Counted {
         words: &["step", "p"],
-        program: RACING.program,
+        program: RACING_PROGRAM,
         next_read: 2,
         next_put_on_out: 1,
         next_put_on_err: 3,

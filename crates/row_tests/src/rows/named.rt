@@ -18,9 +18,9 @@ const MALFORMED: &[u8] = &[
     1, 2, 0x3c, 3, 0x0a, 1, 2, 0x2c, 0, 1, 1,
 ];
 
-static LINE_TABLE: [(DebugSection, &[u8]); 1] = [(DebugSection::Line, LINES)];
+const LINE_TABLE: &[(DebugSection, &[u8])] = &[(DebugSection::Line, LINES)];
 
-static MALFORMED_TABLE: [(DebugSection, &[u8]); 1] = [(DebugSection::Line, MALFORMED)];
+const MALFORMED_TABLE: &[(DebugSection, &[u8])] = &[(DebugSection::Line, MALFORMED)];
 
 /// The race with functions, files and lines.
 pub const NAMED_RACE: &[Race<'static>] = &[Race {
@@ -40,14 +40,14 @@ pub const RACE_WITHOUT_LINES: &[Race<'static>] = &[Race {
 
 static NAMED: [Row<'static>; 3] = [
     Row {
-        form: Form::Named { debug: &LINE_TABLE },
+        form: Form::Named { debug: LINE_TABLE },
         races: NAMED_RACE,
         ..RACING
     },
     // A malformed unit gives no lines, and the names stay.
     Row {
         form: Form::Named {
-            debug: &MALFORMED_TABLE,
+            debug: MALFORMED_TABLE,
         },
         races: RACE_WITHOUT_LINES,
         ..RACING
@@ -80,7 +80,7 @@ const FOO: &[Race<'static>] = &[Race {
 
 const FOO_ROW: Row<'static> = Row {
     program: "main: N(foo1) E(write8,0) T; foo1: E(write8,0) T",
-    form: Form::Named { debug: &LINE_TABLE },
+    form: Form::Named { debug: LINE_TABLE },
     options: WITH_RULES,
     summary: (0, 1, 0, 2, "all ended"),
     ..ROW

@@ -7,8 +7,10 @@ pub const BY_T1: &str = "Write of size 8 at 0x0000000001000000 by thread T1";
 pub const BY_MAIN: &str = "write of size 8 at 0x0000000001000000 by main thread";
 
 /// Two threads write the same eight bytes.
+pub const RACING_PROGRAM: &str = "main: N(a) E(write8,0) T; a: E(write8,0) T";
+
 pub const RACING: Row<'static> = Row {
-    program: "main: N(a) E(write8,0) T; a: E(write8,0) T",
+    program: RACING_PROGRAM,
     races: &[Race {
         mine: BY_T1,
         stack: &[(UNKNOWN, 0x10054)],
