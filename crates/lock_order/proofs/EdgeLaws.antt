@@ -64,7 +64,8 @@ none≢some : {X : Type 0} (x : X) → None ≡ Some x → ⊥
 none≢some x e = subst (λ o. elim o as (λ _. Type 0) [ None ↦ Unit {0} | Some _ ↦ ⊥ ]) e tt
 
 -- one more moment, at which the answer is k
-first-push : (h : List Moment) (m : Moment) (x y : ℕ) (o k : Option ℕ) → IsFirst h x y o → taker_by (locks_now h) m.item x y ≡ k → IsFirst (h ++ m ∷ []) x y (or_else o k)
+first-push : (h : List Moment) (m : Moment) (x y : ℕ) (o k : Option ℕ) → IsFirst h x y o → taker_by (locks_now h) m.item x y ≡ k →
+    IsFirst (h ++ m ∷ []) x y (or_else o k)
 first-push h m x y (Some t) k (place, taken, before) e = elim (cases_lt place (length h)) [
   | inl l ↦ (place, taker-stay h m place x y l ∙ taken, λ n b. taker-stay h m n x y (omega arith) ∙ before n b)
   | inr l ↦ absurd (none≢some t (sym (taker-past h place x y l) ∙ taken))
@@ -84,12 +85,15 @@ one_event : (b : Bool) (e : Event) (ls : List KeptLock) → cond b (locks_after 
 one_event true e ls = refl
 one_event false e ls = refl
 
-event_locks : (t u : ℕ) (e : Event) (ls : List KeptLock) → (if t == u then locks_after ls e else ls) ≡ fold locks_after ls (filter_map (λ (k : Item). event_by u k) (Does t e ∷ []))
+event_locks : (t u : ℕ) (e : Event) (ls : List KeptLock) →
+    (if t == u then locks_after ls e else ls) ≡ fold locks_after ls (filter_map (λ (k : Item). event_by u k) (Does t e ∷ []))
 event_locks t u e ls = one_event (t == u) e ls
 
 -- one more event
-pub follows-event : (h : List Moment) (m : Moment) (t : ℕ) (e : Event) (held now : List Held) (found new : BTreeMap (ℕ × ℕ) ℕ) → m.item ≡ Does t e → GoOnBy t e held now →
-    ((x y : ℕ) → first_by new x y ≡ or_else (first_by found x y) (taker_by (locks_by held) (Does t e) x y)) → Follows h held found → Follows (h ++ m ∷ []) now new
+pub follows-event : (h : List Moment) (m : Moment) (t : ℕ) (e : Event) (held now : List Held) (found new : BTreeMap (ℕ × ℕ) ℕ) → m.item ≡ Does t e →
+    GoOnBy t e held now →
+    ((x y : ℕ) → first_by new x y ≡ or_else (first_by found x y) (taker_by (locks_by held) (Does t e) x y)) → Follows h held found →
+    Follows (h ++ m ∷ []) now new
 follows-event h m t e held now found new is on more f = record {
   locks = λ u.
       on u ∙ (event_locks t u e (locks_by held u)
@@ -106,7 +110,8 @@ follows-event h m t e held now found new is on more f = record {
 abbrev IsQuiet : Moment → Type 0
 IsQuiet m = (f : ℕ → List KeptLock) (u x y : ℕ) → (taker_by f m.item x y ≡ None) × (event_by u m.item ≡ None)
 
-follows-quiet : (h : List Moment) (m : Moment) (held : List Held) (found : BTreeMap (ℕ × ℕ) ℕ) → IsQuiet m → Follows h held found → Follows (h ++ m ∷ []) held found
+follows-quiet : (h : List Moment) (m : Moment) (held : List Held) (found : BTreeMap (ℕ × ℕ) ℕ) → IsQuiet m → Follows h held found →
+    Follows (h ++ m ∷ []) held found
 follows-quiet h m held found quiet f = record {
   locks = λ u.
       f.locks u ∙ sym (locks_now-push h m u ∙ ap (λ (o : Option Event). fold locks_after (locks_now h u) (cons_option o [])) (quiet (locks_now h) u 0 0).1);
@@ -116,7 +121,8 @@ follows-quiet h m held found quiet f = record {
 }
 
 -- eras begin
-pub follows-eras : (h : List Moment) (n i round : ℕ) (held : List Held) (found : BTreeMap (ℕ × ℕ) ℕ) → Follows h held found → Follows (h ++ replicate n (record { entry = i; round = round; item = NewEra; checks = [] })) held found
+pub follows-eras : (h : List Moment) (n i round : ℕ) (held : List Held) (found : BTreeMap (ℕ × ℕ) ℕ) → Follows h held found →
+    Follows (h ++ replicate n (record { entry = i; round = round; item = NewEra; checks = [] })) held found
 follows-eras h zero i round held found f = rw (append-nil h) f
 follows-eras h (suc n) i round held found f =
     let era : Moment = record { entry = i; round = round; item = NewEra; checks = [] } in
@@ -124,8 +130,10 @@ follows-eras h (suc n) i round held found f =
     (follows-eras (h ++ era ∷ []) n i round held found (follows-quiet h era held found (λ g u x y. (refl, refl)) f))
 
 -- an entry begins, with its note
-pub follows-note : (h : List Moment) (i round t : ℕ) (note : DeskNote) (held : List Held) (found : BTreeMap (ℕ × ℕ) ℕ) → Follows h held found → Follows (h ++ record { entry = i; round = round; item = Notes t note; checks = [] } ∷ []) held found
-follows-note h i round t note held found f = follows-quiet h (record { entry = i; round = round; item = Notes t note; checks = [] }) held found (λ g u x y. (refl, refl)) f
+pub follows-note : (h : List Moment) (i round t : ℕ) (note : DeskNote) (held : List Held) (found : BTreeMap (ℕ × ℕ) ℕ) → Follows h held found →
+    Follows (h ++ record { entry = i; round = round; item = Notes t note; checks = [] } ∷ []) held found
+follows-note h i round t note held found f = follows-quiet h (record { entry = i; round = round; item = Notes t note; checks = [] }) held found
+    (λ g u x y. (refl, refl)) f
 
 -- nothing happened yet
 pub follows-nothing : (held : List Held) (found : BTreeMap (ℕ × ℕ) ℕ) → held ≡ [] → found.entries ≡ [] → Follows [] held found
@@ -141,9 +149,11 @@ spread true false false = refl
 spread false b c = refl
 
 -- one more kept lock of the thread
-pub takes-push : (x y to : ℕ) (read : Bool) (ls : List KeptLock) (l : KeptLock) → takes x y (ls ++ l ∷ []) (Lock to read) ≡ (takes x y ls (Lock to read) || (((to == y) && not (x == y)) && (l.addr == x)))
+pub takes-push : (x y to : ℕ) (read : Bool) (ls : List KeptLock) (l : KeptLock) →
+    takes x y (ls ++ l ∷ []) (Lock to read) ≡ (takes x y ls (Lock to read) || (((to == y) && not (x == y)) && (l.addr == x)))
 takes-push x y to read ls l =
-    ap (λ b. ((to == y) && not (x == y)) && b) (list_any-append (λ (k : KeptLock). k.addr == x) ls (l ∷ [])) ∙ spread ((to == y) && not (x == y)) (has_address ls x) (l.addr == x)
+    ap (λ b. ((to == y) && not (x == y)) && b) (list_any-append (λ (k : KeptLock). k.addr == x) ls (l ∷ [])) ∙ spread ((to == y) && not (x == y))
+    (has_address ls x) (l.addr == x)
 
 or_false : (b : Bool) → (b || false) ≡ b
 or_false true = refl
@@ -162,11 +172,14 @@ comes : (o : Option ℕ) (t : ℕ) → is_some o ≡ false → Some t ≡ or_els
 comes None t e = refl
 comes (Some x) t e = absurd (false≢true (sym e))
 
-added : (found : BTreeMap (ℕ × ℕ) ℕ) (from to t : ℕ) → is_some (first_by found from to) ≡ false → (x y : ℕ) → ((from ≡ x) ⊎ (from ≡ x → ⊥)) → ((to ≡ y) ⊎ (to ≡ y → ⊥)) → cond ((from == x) && (to == y)) (Some t) (first_by found x y) ≡ or_else (first_by found x y) (cond ((from == x) && (to == y)) (Some t) None)
+added : (found : BTreeMap (ℕ × ℕ) ℕ) (from to t : ℕ) → is_some (first_by found from to) ≡ false → (x y : ℕ) → ((from ≡ x) ⊎ (from ≡ x → ⊥)) →
+    ((to ≡ y) ⊎ (to ≡ y → ⊥)) →
+    cond ((from == x) && (to == y)) (Some t) (first_by found x y) ≡ or_else (first_by found x y) (cond ((from == x) && (to == y)) (Some t) None)
 added found from to t none x y (inl e) (inl f) =
     let a = eq-eqb from x e in
     let b = eq-eqb to y f in
-    rw (a, b) (comes (first_by found x y) t (subst (λ (b : ℕ). is_some (first_by found x b) ≡ false) f (subst (λ (a : ℕ). is_some (first_by found a to) ≡ false) e none)))
+    rw (a, b) (comes (first_by found x y) t (subst (λ (b : ℕ). is_some (first_by found x b) ≡ false) f
+    (subst (λ (a : ℕ). is_some (first_by found a to) ≡ false) e none)))
 added found from to t none x y (inl e) (inr f) = let b = ne_eqb to y f in rw (b, and_right (from == x) false refl) (sym (or_none (first_by found x y)))
 added found from to t none x y (inr e) f = let a = ne_eqb from x e in rw a (sym (or_none (first_by found x y)))
 
@@ -200,17 +213,24 @@ no_pair x y from to same = elim (cases_eq from x) [
 abbrev pub with_first : List Held → ℕ → ℕ → ℕ → Bool → ℕ → ℕ → Option ℕ
 with_first held k t to read x y = taker_by (locks_by (take k held)) (Does t (Lock to read)) x y
 
-first_more : (held : List Held) (k t to : ℕ) (read : Bool) (x y : ℕ) (d : Held) → k < length held → with_first held (suc k) t to read x y ≡ cond (takes x y (cond ((get_or held k d).tid == t) (locks_by (take k held) t ++ (get_or held k d).lock ∷ []) (locks_by (take k held) t)) (Lock to read)) (Some t) None
+first_more : (held : List Held) (k t to : ℕ) (read : Bool) (x y : ℕ) (d : Held) → k < length held →
+    with_first held (suc k) t to read x y ≡
+    cond (takes x y (cond ((get_or held k d).tid == t) (locks_by (take k held) t ++ (get_or held k d).lock ∷ []) (locks_by (take k held) t)) (Lock to read))
+    (Some t) None
 first_more held k t to read x y d l =
-    ap (λ (ls : List KeptLock). cond (takes x y ls (Lock to read)) (Some t) None) (ap (λ (ks : List Held). locks_by ks t) (take-suc held k d l) ∙ locks_by-push (take k held) (get_or held k d) t)
+    ap (λ (ls : List KeptLock). cond (takes x y ls (Lock to read)) (Some t) None)
+    (ap (λ (ks : List Held). locks_by ks t) (take-suc held k d l) ∙ locks_by-push (take k held) (get_or held k d) t)
 
 -- the next lock is another thread's
-pub edge_of_other : (held : List Held) (k t to : ℕ) (read : Bool) (x y : ℕ) (h : Held) (o : Option ℕ) → k < length held → h ≡ get_or held k h → (h.tid ≡ t → ⊥) → or_else o (with_first held k t to read x y) ≡ or_else o (with_first held (suc k) t to read x y)
+pub edge_of_other : (held : List Held) (k t to : ℕ) (read : Bool) (x y : ℕ) (h : Held) (o : Option ℕ) → k < length held → h ≡ get_or held k h →
+    (h.tid ≡ t → ⊥) → or_else o (with_first held k t to read x y) ≡ or_else o (with_first held (suc k) t to read x y)
 edge_of_other held k t to read x y h o l is other =
     let no : ((get_or held k h).tid == t) ≡ false = ne_eqb (get_or held k h).tid t (λ e. other (ap (λ (g : Held). g.tid) is ∙ e)) in
     ap (or_else o) (sym (first_more held k t to read x y h l ∙ rw no refl))
 
-own_locks : (held : List Held) (k t to : ℕ) (read : Bool) (x y : ℕ) (h : Held) → k < length held → h ≡ get_or held k h → h.tid ≡ t → with_first held (suc k) t to read x y ≡ cond (takes x y (locks_by (take k held) t) (Lock to read) || (((to == y) && not (x == y)) && (h.lock.addr == x))) (Some t) None
+own_locks : (held : List Held) (k t to : ℕ) (read : Bool) (x y : ℕ) (h : Held) → k < length held → h ≡ get_or held k h → h.tid ≡ t →
+    with_first held (suc k) t to read x y ≡
+    cond (takes x y (locks_by (take k held) t) (Lock to read) || (((to == y) && not (x == y)) && (h.lock.addr == x))) (Some t) None
 own_locks held k t to read x y h l is own =
     let yes : ((get_or held k h).tid == t) ≡ true = eq-eqb (get_or held k h).tid t (ap (λ (g : Held). g.tid) (sym is) ∙ own) in
     first_more held k t to read x y h l
@@ -219,17 +239,21 @@ own_locks held k t to read x y h l is own =
     ∙ ap (λ b. cond b (Some t) None) (takes-push x y to read (locks_by (take k held) t) h.lock)))
 
 -- the next lock is the thread's, of the mutex that it takes
-pub edge_to_itself : (held : List Held) (k t to : ℕ) (read : Bool) (x y : ℕ) (h : Held) (o : Option ℕ) → k < length held → h ≡ get_or held k h → h.tid ≡ t → h.lock.addr ≡ to → or_else o (with_first held k t to read x y) ≡ or_else o (with_first held (suc k) t to read x y)
+pub edge_to_itself : (held : List Held) (k t to : ℕ) (read : Bool) (x y : ℕ) (h : Held) (o : Option ℕ) → k < length held → h ≡ get_or held k h → h.tid ≡ t →
+    h.lock.addr ≡ to → or_else o (with_first held k t to read x y) ≡ or_else o (with_first held (suc k) t to read x y)
 edge_to_itself held k t to read x y h o l is own same =
     let none = no_pair x y h.lock.addr to same in
     ap (or_else o) (sym (own_locks held k t to read x y h l is own ∙ rw (none, or_false (takes x y (locks_by (take k held) t) (Lock to read))) refl))
 
 -- the next lock is the thread's
-pub edge_of_own : (held : List Held) (k t to : ℕ) (read : Bool) (x y : ℕ) (h : Held) (o : Option ℕ) → k < length held → h ≡ get_or held k h → h.tid ≡ t → (h.lock.addr ≡ to → ⊥) →
-    or_else (or_else o (with_first held k t to read x y)) (cond ((h.lock.addr == x) && (to == y)) (Some t) None) ≡ or_else o (with_first held (suc k) t to read x y)
+pub edge_of_own : (held : List Held) (k t to : ℕ) (read : Bool) (x y : ℕ) (h : Held) (o : Option ℕ) → k < length held → h ≡ get_or held k h → h.tid ≡ t →
+    (h.lock.addr ≡ to → ⊥) →
+    or_else (or_else o (with_first held k t to read x y)) (cond ((h.lock.addr == x) && (to == y)) (Some t) None) ≡
+    or_else o (with_first held (suc k) t to read x y)
 edge_of_own held k t to read x y h o l is own apart =
     or_both t (takes x y (locks_by (take k held) t) (Lock to read)) ((h.lock.addr == x) && (to == y)) o
-    ∙ ap (or_else o) (ap (λ b. cond (takes x y (locks_by (take k held) t) (Lock to read) || b) (Some t) None) (sym (same_pair x y h.lock.addr to apart)) ∙ sym (own_locks held k t to read x y h l is own))
+    ∙ ap (or_else o) (ap (λ b. cond (takes x y (locks_by (take k held) t) (Lock to read) || b) (Some t) None) (sym (same_pair x y h.lock.addr to apart))
+    ∙ sym (own_locks held k t to read x y h l is own))
 
 is_eq-numbers : (a b : ℕ) → is_eq (nat_cmp a b) ≡ (a == b)
 is_eq-numbers a b = elim (cases_order a b) [
@@ -242,16 +266,19 @@ is_at-pair : (from to x y : ℕ) → is_at (pair_order (from, to)) (x, y) ≡ ((
 is_at-pair from to x y = both_equal (nat_cmp from x) (nat_cmp to y) ∙ ap₂ (λ (a b : Bool). a && b) (is_eq-numbers from x) (is_eq-numbers to y)
 
 -- a new pair
-pub pair_added : (found new : BTreeMap (ℕ × ℕ) ℕ) (from to t : ℕ) → is_some (first_by found from to) ≡ false → ((q : ℕ × ℕ) → get pair_order new q ≡ cond (is_at (pair_order (from, to)) q) (Some t) (get pair_order found q)) → (x y : ℕ) →
+pub pair_added : (found new : BTreeMap (ℕ × ℕ) ℕ) (from to t : ℕ) → is_some (first_by found from to) ≡ false →
+    ((q : ℕ × ℕ) → get pair_order new q ≡ cond (is_at (pair_order (from, to)) q) (Some t) (get pair_order found q)) → (x y : ℕ) →
     first_by new x y ≡ or_else (first_by found x y) (cond ((from == x) && (to == y)) (Some t) None)
 pair_added found new from to t none put x y =
     put (x, y) ∙ (ap (λ b. cond b (Some t) (first_by found x y)) (is_at-pair from to x y) ∙ added found from to t none x y (cases_eq from x) (cases_eq to y))
 
 -- a pair that is there
-pub pair_there : (found : BTreeMap (ℕ × ℕ) ℕ) (from to t : ℕ) → is_some (first_by found from to) ≡ true → (x y : ℕ) → first_by found x y ≡ or_else (first_by found x y) (cond ((from == x) && (to == y)) (Some t) None)
+pub pair_there : (found : BTreeMap (ℕ × ℕ) ℕ) (from to t : ℕ) → is_some (first_by found from to) ≡ true → (x y : ℕ) →
+    first_by found x y ≡ or_else (first_by found x y) (cond ((from == x) && (to == y)) (Some t) None)
 pair_there found from to t some x y = elim (cases_eq from x) [
   | inl e ↦ elim (cases_eq to y) [
-    | inl f ↦ stays (first_by found x y) (cond ((from == x) && (to == y)) (Some t) None) (subst (λ (b : ℕ). is_some (first_by found x b) ≡ true) f (subst (λ (a : ℕ). is_some (first_by found a to) ≡ true) e some))
+    | inl f ↦ stays (first_by found x y) (cond ((from == x) && (to == y)) (Some t) None)
+        (subst (λ (b : ℕ). is_some (first_by found x b) ≡ true) f (subst (λ (a : ℕ). is_some (first_by found a to) ≡ true) e some))
     | inr f ↦ let b = ne_eqb to y f in rw (b, and_right (from == x) false refl) (sym (or_none (first_by found x y)))
   ]
   | inr e ↦ let a = ne_eqb from x e in rw a (sym (or_none (first_by found x y)))
@@ -272,9 +299,11 @@ some_moments i e k = record { entry = i; round = e.round; item = Notes e.tid e.n
 
 pub all_moments : (i : ℕ) (e : Entry) (k : ℕ) → length e.events ≤ k → some_moments i e k ≡ entry_moments i e
 all_moments i e k l =
-    ap (λ (es : List Event). record { entry = i; round = e.round; item = Notes e.tid e.note; checks = [] } ∷ map (event_moment i e) (enumerate_from 0 es)) (take_all k e.events l)
+    ap (λ (es : List Event). record { entry = i; round = e.round; item = Notes e.tid e.note; checks = [] } ∷ map (event_moment i e) (enumerate_from 0 es))
+    (take_all k e.events l)
 
-more_moments : (i : ℕ) (e : Entry) (k : ℕ) (d : Event) → k < length e.events → some_moments i e (suc k) ≡ some_moments i e k ++ event_moment i e (k, get_or e.events k d) ∷ []
+more_moments : (i : ℕ) (e : Entry) (k : ℕ) (d : Event) → k < length e.events →
+    some_moments i e (suc k) ≡ some_moments i e k ++ event_moment i e (k, get_or e.events k d) ∷ []
 more_moments i e k d l =
     ap (λ (ms : List Moment). record { entry = i; round = e.round; item = Notes e.tid e.note; checks = [] } ∷ ms)
     (ap (λ (es : List Event). map (event_moment i e) (enumerate_from 0 es)) (take-suc e.events k d l)
@@ -283,15 +312,20 @@ more_moments i e k d l =
     ∙ ap (λ (n : ℕ). map (event_moment i e) (enumerate_from 0 (take k e.events)) ++ event_moment i e (n, get_or e.events k d) ∷ []) (place_of e.events k l))))
 
 -- one more event of the entry
-pub follows-more : (h : List Moment) (i : ℕ) (e : Entry) (k : ℕ) (event : Event) (held now : List Held) (found new : BTreeMap (ℕ × ℕ) ℕ) → k < length e.events → event ≡ get_or e.events k event → GoOnBy e.tid event held now →
-    ((x y : ℕ) → first_by new x y ≡ or_else (first_by found x y) (taker_by (locks_by held) (Does e.tid event) x y)) → Follows (h ++ some_moments i e k) held found → Follows (h ++ some_moments i e (suc k)) now new
+pub follows-more : (h : List Moment) (i : ℕ) (e : Entry) (k : ℕ) (event : Event) (held now : List Held) (found new : BTreeMap (ℕ × ℕ) ℕ) →
+    k < length e.events → event ≡ get_or e.events k event → GoOnBy e.tid event held now →
+    ((x y : ℕ) → first_by new x y ≡ or_else (first_by found x y) (taker_by (locks_by held) (Does e.tid event) x y)) →
+    Follows (h ++ some_moments i e k) held found → Follows (h ++ some_moments i e (suc k)) now new
 follows-more h i e k event held now found new l is on more f =
     subst (λ (ms : List Moment). Follows ms now new)
-    (append_assoc h (some_moments i e k) (event_moment i e (k, get_or e.events k event) ∷ []) ∙ ap (λ (ms : List Moment). h ++ ms) (sym (more_moments i e k event l)))
-    (follows-event (h ++ some_moments i e k) (event_moment i e (k, get_or e.events k event)) e.tid event held now found new (ap (Does e.tid) (sym is)) on more f)
+    (append_assoc h (some_moments i e k) (event_moment i e (k, get_or e.events k event) ∷ []) ∙ ap (λ (ms : List Moment). h ++ ms)
+    (sym (more_moments i e k event l)))
+    (follows-event (h ++ some_moments i e k) (event_moment i e (k, get_or e.events k event)) e.tid event held now found new
+    (ap (Does e.tid) (sym is)) on more f)
 
 -- one more entry of the history
-pub follows-entry : (entries : List Entry) (k : ℕ) (e : Entry) (held now : List Held) (found new : BTreeMap (ℕ × ℕ) ℕ) → k < length entries → e ≡ get_or entries k e → ((h : List Moment) (i : ℕ) → Follows h held found → Follows (h ++ entry_moments i e) now new) →
+pub follows-entry : (entries : List Entry) (k : ℕ) (e : Entry) (held now : List Held) (found new : BTreeMap (ℕ × ℕ) ℕ) → k < length entries →
+    e ≡ get_or entries k e → ((h : List Moment) (i : ℕ) → Follows h held found → Follows (h ++ entry_moments i e) now new) →
     Follows (moments (take k entries)) held found → Follows (moments (take (suc k) entries)) now new
 follows-entry entries k e held now found new l is step f =
     let before = take k entries in
@@ -331,11 +365,14 @@ some_first h edge (Some s) e (place, taken, before) = elim (cases_order place e.
 ]
 
 -- the entries, as edges, are the history's
-pub are_edges : (h : List Moment) (held : List Held) (found : BTreeMap (ℕ × ℕ) ℕ) (es : List Edge) → Follows h held found → IsOrdered pair_order found → es ≡ map edge_of found.entries → AreEdges h es
+pub are_edges : (h : List Moment) (held : List Held) (found : BTreeMap (ℕ × ℕ) ℕ) (es : List Edge) → Follows h held found → IsOrdered pair_order found →
+    es ≡ map edge_of found.entries → AreEdges h es
 are_edges h held found es f ordered is = subst (AreEdges h) (sym is) (record {
   ordered = subst (IsStrictlySortedBy pair_order) (sym (map-map found.entries)) ordered;
   each = λ e c.
-      first_some h e.from e.to e.tid (first_by found e.from e.to) ((btree_map_get_iff pair_total pair_exact found ordered (e.from, e.to) e.tid).1 (contains-entry found.entries e c)) (f.first e.from e.to);
+      first_some h e.from e.to e.tid (first_by found e.from e.to)
+      ((btree_map_get_iff pair_total pair_exact found ordered (e.from, e.to) e.tid).1 (contains-entry found.entries e c)) (f.first e.from e.to);
   all = λ e edge.
-      contains-edge found.entries (entry_of e) ((btree_map_get_iff pair_total pair_exact found ordered (e.from, e.to) e.tid).0 (some_first h e (first_by found e.from e.to) edge (f.first e.from e.to)));
+      contains-edge found.entries (entry_of e) ((btree_map_get_iff pair_total pair_exact found ordered (e.from, e.to) e.tid).0
+      (some_first h e (first_by found e.from e.to) edge (f.first e.from e.to)));
 })

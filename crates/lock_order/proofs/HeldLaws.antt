@@ -26,7 +26,8 @@ after_one xs h false = ap (map lock_of) (append-nil xs)
 pub locks_by-push : (held : List Held) (h : Held) (u : ℕ) → locks_by (held ++ h ∷ []) u ≡ cond (h.tid == u) (locks_by held u ++ h.lock ∷ []) (locks_by held u)
 locks_by-push held h u = ap (map lock_of) (filter-append (λ (k : Held). k.tid == u) held (h ∷ [])) ∙ after_one (by u held) h (h.tid == u)
 
-none_of_two : (p : KeptLock → Bool) (h : Held) (xs : List Held) (b : Bool) → (b && p h.lock) ≡ false → list_any p (map lock_of xs) ≡ false → list_any p (map lock_of (cond b (h ∷ xs) xs)) ≡ false
+none_of_two : (p : KeptLock → Bool) (h : Held) (xs : List Held) (b : Bool) → (b && p h.lock) ≡ false → list_any p (map lock_of xs) ≡ false →
+    list_any p (map lock_of (cond b (h ∷ xs) xs)) ≡ false
 none_of_two p h xs true e rest = or_from (p h.lock) (list_any p (map lock_of xs)) e rest
 none_of_two p h xs false e rest = rest
 
@@ -37,21 +38,25 @@ none_by t addr read (h ∷ held) none =
     let parts = or_parts (is_held t addr read h) (list_any (is_held t addr read) held) none in
     none_of_two (is_lock addr read) h (by t held) (h.tid == t) parts.0 (none_by t addr read held parts.1)
 
-any_of_two : (p : KeptLock → Bool) (h : Held) (xs : List Held) (b : Bool) → list_any p (map lock_of xs) ≡ true → list_any p (map lock_of (cond b (h ∷ xs) xs)) ≡ true
+any_of_two : (p : KeptLock → Bool) (h : Held) (xs : List Held) (b : Bool) → list_any p (map lock_of xs) ≡ true →
+    list_any p (map lock_of (cond b (h ∷ xs) xs)) ≡ true
 any_of_two p h xs true e = or_right (p h.lock) (list_any p (map lock_of xs)) e
 any_of_two p h xs false e = e
 
-any_by : (t addr : ℕ) (read : Bool) (held : List Held) (i : ℕ) (d : Held) → i < length held → is_held t addr read (get_or held i d) ≡ true → list_any (is_lock addr read) (locks_by held t) ≡ true
+any_by : (t addr : ℕ) (read : Bool) (held : List Held) (i : ℕ) (d : Held) → i < length held → is_held t addr read (get_or held i d) ≡ true →
+    list_any (is_lock addr read) (locks_by held t) ≡ true
 any_by t addr read [] i d l it = absurd (omega arith)
 any_by t addr read (h ∷ held) zero d l it = let parts = and_parts (h.tid == t) (is_lock addr read h.lock) it in rw (parts.0, parts.1) refl
 any_by t addr read (h ∷ held) (suc i) d l it = any_of_two (is_lock addr read) h (by t held) (h.tid == t) (any_by t addr read held i d (omega arith) it)
 
-own_of_two : (p : KeptLock → Bool) (h : Held) (xs ys : List Held) (b : Bool) → list_any p (map lock_of xs) ≡ true → map lock_of ys ≡ without_last p (map lock_of xs) → map lock_of (cond b (h ∷ ys) ys) ≡ without_last p (map lock_of (cond b (h ∷ xs) xs))
+own_of_two : (p : KeptLock → Bool) (h : Held) (xs ys : List Held) (b : Bool) → list_any p (map lock_of xs) ≡ true →
+    map lock_of ys ≡ without_last p (map lock_of xs) → map lock_of (cond b (h ∷ ys) ys) ≡ without_last p (map lock_of (cond b (h ∷ xs) xs))
 own_of_two p h xs ys true any e = rw (any, and_right (p h.lock) false refl) (ap (λ (ls : List KeptLock). h.lock ∷ ls) e)
 own_of_two p h xs ys false any e = e
 
 -- the thread's last such lock leaves
-removed_own : (t addr : ℕ) (read : Bool) (held : List Held) (i : ℕ) (d : Held) → i < length held → is_held t addr read (get_or held i d) ≡ true → list_any (is_held t addr read) (drop (suc i) held) ≡ false →
+removed_own : (t addr : ℕ) (read : Bool) (held : List Held) (i : ℕ) (d : Held) → i < length held → is_held t addr read (get_or held i d) ≡ true →
+    list_any (is_held t addr read) (drop (suc i) held) ≡ false →
     locks_by (remove held i) t ≡ without_last (is_lock addr read) (locks_by held t)
 removed_own t addr read [] i d l it none = absurd (omega arith)
 removed_own t addr read (h ∷ held) zero d l it none =
@@ -59,25 +64,29 @@ removed_own t addr read (h ∷ held) zero d l it none =
     let rest = none_by t addr read held none in
     rw (parts.0, parts.1, rest) refl
 removed_own t addr read (h ∷ held) (suc i) d l it none =
-    own_of_two (is_lock addr read) h (by t held) (by t (remove held i)) (h.tid == t) (any_by t addr read held i d (omega arith) it) (removed_own t addr read held i d (omega arith) it none)
+    own_of_two (is_lock addr read) h (by t held) (by t (remove held i)) (h.tid == t) (any_by t addr read held i d (omega arith) it)
+    (removed_own t addr read held i d (omega arith) it none)
 
 other_of_two : (h : Held) (xs ys : List Held) (b : Bool) → map lock_of ys ≡ map lock_of xs → map lock_of (cond b (h ∷ ys) ys) ≡ map lock_of (cond b (h ∷ xs) xs)
 other_of_two h xs ys true e = ap (λ (ls : List KeptLock). h.lock ∷ ls) e
 other_of_two h xs ys false e = e
 
-removed_other : (u : ℕ) (held : List Held) (i : ℕ) (d : Held) → i < length held → ((get_or held i d).tid == u) ≡ false → locks_by (remove held i) u ≡ locks_by held u
+removed_other : (u : ℕ) (held : List Held) (i : ℕ) (d : Held) → i < length held → ((get_or held i d).tid == u) ≡ false →
+    locks_by (remove held i) u ≡ locks_by held u
 removed_other u [] i d l other = absurd (omega arith)
 removed_other u (h ∷ held) zero d l other = rw other refl
 removed_other u (h ∷ held) (suc i) d l other = other_of_two h (by u held) (by u (remove held i)) (h.tid == u) (removed_other u held i d (omega arith) other)
 
-pub go_on : (t : ℕ) (e : Event) (old new : List Held) → locks_by new t ≡ locks_after (locks_by old t) e → ((u : ℕ) → (t ≡ u → ⊥) → locks_by new u ≡ locks_by old u) → GoOnBy t e old new
+pub go_on : (t : ℕ) (e : Event) (old new : List Held) → locks_by new t ≡ locks_after (locks_by old t) e →
+    ((u : ℕ) → (t ≡ u → ⊥) → locks_by new u ≡ locks_by old u) → GoOnBy t e old new
 go_on t e old new own others u = elim (cases_eq t u) [
   | inl same ↦ let yes = eq-eqb t u same in rw yes (subst (λ (v : ℕ). locks_by new v ≡ locks_after (locks_by old v) e) same own)
   | inr other ↦ let no = ne_eqb t u other in rw no (others u other)
 ]
 
 -- a lock is kept
-pub taken_kept : (t addr : ℕ) (read : Bool) (old new : List Held) → length (locks_by old t) < 64 → new ≡ old ++ record { tid = t; lock = record { addr = addr; read = read } } ∷ [] → GoOnBy t (Lock addr read) old new
+pub taken_kept : (t addr : ℕ) (read : Bool) (old new : List Held) → length (locks_by old t) < 64 →
+    new ≡ old ++ record { tid = t; lock = record { addr = addr; read = read } } ∷ [] → GoOnBy t (Lock addr read) old new
 taken_kept t addr read old new room e =
     go_on t (Lock addr read) old new
     (let fits = lt-ltb (length (locks_by old t)) 64 room in
@@ -95,7 +104,8 @@ taken_over t addr read old new full e =
     (λ u other. ap (λ (held : List Held). locks_by held u) e)
 
 -- the lock at i is given back
-pub given_back : (t addr : ℕ) (read : Bool) (old new : List Held) (i : ℕ) (d : Held) → i < length old → is_held t addr read (get_or old i d) ≡ true → list_any (is_held t addr read) (drop (suc i) old) ≡ false → new ≡ remove old i → GoOnBy t (Unlock addr read) old new
+pub given_back : (t addr : ℕ) (read : Bool) (old new : List Held) (i : ℕ) (d : Held) → i < length old → is_held t addr read (get_or old i d) ≡ true →
+    list_any (is_held t addr read) (drop (suc i) old) ≡ false → new ≡ remove old i → GoOnBy t (Unlock addr read) old new
 given_back t addr read old new i d l it none e =
     let parts = and_parts ((get_or old i d).tid == t) (is_lock addr read (get_or old i d).lock) it in
     let tid : (get_or old i d).tid ≡ t = eqb-true (get_or old i d).tid t parts.0 in

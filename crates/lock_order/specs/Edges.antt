@@ -15,12 +15,12 @@ use Rattle.lock_order.specs.declared.edge.Edge.{Edge}
 abbrev pub has_address : List KeptLock → ℕ → Bool
 has_address locks addr = list_any (λ (l : KeptLock). l.addr == addr) locks
 
--- the thread t takes the mutex `to` by the event, and its locks have another mutex `from`
+-- the event takes the mutex `to`, to read or to write, and the locks have another mutex `from`
 abbrev pub takes : ℕ → ℕ → List KeptLock → Event → Bool
 takes from to locks (Lock addr read) = ((addr == to) && not (from == to)) && has_address locks from
 takes from to locks _ = false
 
--- the thread that takes the mutex `to` by the item, and keeps another mutex `from`, where each thread has those locks
+-- the thread that takes the mutex `to` by the item, and keeps another mutex `from`, where each thread keeps those locks
 abbrev pub taker_by : (ℕ → List KeptLock) → Item → ℕ → ℕ → Option ℕ
 taker_by locks (Does t event) from to = if takes from to (locks t) event then Some t else None
 taker_by locks _ from to = None

@@ -8,7 +8,7 @@ use crate::{Edge, Edges};
 use run_record::NoMemory;
 use std::alloc::{AllocError, Global};
 
-/// Edges of which each ends where the next one begins, and the last one where the first begins.
+/// Edges in order. In a cycle each ends where the next one begins, and the last one where the first begins.
 #[derive(Drop)]
 pub struct Cycle {
     pub edges: Edges,

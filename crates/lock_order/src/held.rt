@@ -6,7 +6,6 @@ ghost use Rattle.lock_order.specs.Edges.{taker_by};
 ghost use Rattle.lock_order.specs.Held.{locks_by, GoOnBy, is_held, first_by, or_else, Follows};
 
 use run_record::{Entry, Event, KeptLock, NoMemory};
-use std::alloc::Global;
 use std::collections::BTreeMap;
 
 /// How many locks of a thread are kept.

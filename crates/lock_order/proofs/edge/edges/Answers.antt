@@ -17,11 +17,13 @@ loop-entry-preserved c =
     let l = rw c.as_slice-entry-items.ensures at c.loop-entry-test.true in
     let is = rw c.as_slice-entry-items.ensures at c.entry-item.is in
     subst (λ (n : ℕ). Follows (moments (take n entries)) c.note_entry.new.held.items c.note_entry.new.found) (sym next)
-    (follows-entry entries k c.entry-item.result c.loop-entry.held.items c.note_entry.new.held.items c.loop-entry.found c.note_entry.new.found l is c.in_ok-note_entry.ensures c.loop-entry.invariant)
+    (follows-entry entries k c.entry-item.result c.loop-entry.held.items c.note_entry.new.held.items c.loop-entry.found c.note_entry.new.found
+    l is c.in_ok-note_entry.ensures c.loop-entry.invariant)
 
 pub returns : goal.returns
 returns c =
     let full = rw c.as_slice-entry-items.ensures at c.loop-entry-test.false in
     are_edges (moments c.args.history.now.entries) c.loop-entry.held.items c.loop-entry.found c.from_vec.result
-    (subst (λ (es : List Entry). Follows (moments es) c.loop-entry.held.items c.loop-entry.found) (take_all c.loop-entry.entry-index c.args.history.now.entries full) c.loop-entry.invariant)
+    (subst (λ (es : List Entry). Follows (moments es) c.loop-entry.held.items c.loop-entry.found)
+    (take_all c.loop-entry.entry-index c.args.history.now.entries full) c.loop-entry.invariant)
     c.listed.ensures.ordered (c.from_vec.ensures ∙ c.in_ok-listed.ensures.items)

@@ -41,4 +41,5 @@ loop-keeper-preserved c = λ x y read.
 pub returns : goal.returns
 returns c = λ x y read.
     c.loop-keeper.invariant x y read
-    ∙ ap (λ (held : List Held). or_else (first_by c.args.found.now x y) (taker_by (locks_by held) (Does c.args.tid (Lock c.args.to read)) x y)) (take_all c.loop-keeper.keeper-index c.args.held.now c.loop-keeper-test.false)
+    ∙ ap (λ (held : List Held). or_else (first_by c.args.found.now x y) (taker_by (locks_by held) (Does c.args.tid (Lock c.args.to read)) x y))
+    (take_all c.loop-keeper.keeper-index c.args.held.now c.loop-keeper-test.false)

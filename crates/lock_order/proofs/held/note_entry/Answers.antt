@@ -21,10 +21,12 @@ loop-event-preserved c = λ h i f.
     let edges = rw c.as_slice-event-items.ensures at c.in_ok-note.ensures.edges in
     let l = rw c.as_slice-event-items.ensures at c.loop-event-test.true in
     subst (λ (n : ℕ). Follows (h ++ some_moments i e n) c.note.new.held.items c.note.new.found) (sym next)
-    (follows-more h i e k event c.loop-event.held.items c.note.new.held.items c.loop-event.found c.note.new.found l (get_or_default e.events k Begin event l) locks edges
+    (follows-more h i e k event c.loop-event.held.items c.note.new.held.items c.loop-event.found c.note.new.found l
+    (get_or_default e.events k Begin event l) locks edges
     (c.loop-event.invariant h i f))
 
 pub returns : goal.returns
 returns c = λ h i f.
     let full = rw c.as_slice-event-items.ensures at c.loop-event-test.false in
-    subst (λ (ms : List Moment). Follows (h ++ ms) c.loop-event.held.items c.loop-event.found) (all_moments i c.args.entry.now c.loop-event.event-index full) (c.loop-event.invariant h i f)
+    subst (λ (ms : List Moment). Follows (h ++ ms) c.loop-event.held.items c.loop-event.found)
+    (all_moments i c.args.entry.now c.loop-event.event-index full) (c.loop-event.invariant h i f)
