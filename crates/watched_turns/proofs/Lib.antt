@@ -2,6 +2,7 @@ pub mod Histories
 pub mod Project
 pub mod Checks
 pub mod Events
+pub mod Converse
 pub mod Together
 pub mod Run
 pub mod Listed

@@ -3,3 +3,4 @@ pub mod Checking
 pub mod Turns
 pub mod Along
 pub mod Rounds
+pub mod Right

@@ -23,7 +23,10 @@ ghost use Rattle.turn_orders.specs.LineUp.{IsLineUp, IsSorted, Stamped, stamped,
 ghost use Rattle.turn_orders.specs.Rounds.{AreRounds, last_made};
 ghost use Rattle.joint_turns.specs.Joint.{Value};
 ghost use Rattle.joint_turns.specs.Along.{AllTell};
-ghost use Rattle.watched_turns.specs.Turns.{Local, Act, Told, watched_turn, joint_call, first_state, era_after};
+ghost use Rattle.joint_turns.specs.Joint as joint;
+ghost use Rattle.watched_turns.specs.Turns.{Local, Act, Told, events_of, steps, watched_turn, joint_call, first_state, era_after};
+ghost use Rattle.watched_turns.specs.Checking.{Loads};
+ghost use Rattle.watched_turns.specs.Right.{AreEvents};
 ghost use Rattle.watched_turns.specs.Along.{IsWatched, ArePlaced, StandFrom, AreRight, StampedDeed, WasPlaced, told_of, all_of, items_told, world_after};
 ghost use Rattle.watched_turns.specs.Rounds.{WatchedRound, between, AllPlaced, RoundsStand, RoundsAreRight, world_after_rounds, position_after};
 
@@ -50,6 +53,16 @@ pub fn turns_law()
         image_of file ≡ Ok file → IsWatched file harts g slots w h n m → ArePlaced file harts g m cs →
         let told = all_of (tells (watched_turn file harts g) m cs) in
         StandFrom h n told → AreRight file g h n told }
+{}
+
+/// The other way round: where the moments of a history from a position on are the events of the thread's next instruction,
+/// with the checks that the definitions ask for, they are what the turn tells by the words that these checks loaded. So who
+/// has a history and makes the checks by other means need not run this machine beside it to know what it tells.
+pub fn told_law()
+    ensures { (file : List ℕ) (harts g slots : ℕ) (w : World) (h : List Moment) (n : ℕ) (m : State Local Value) (t k : ℕ) (loads : Loads) →
+        image_of file ≡ Ok file → IsWatched file harts g slots w h n m → joint.IsPlaced file (m.local t).joint (m.value k) t k joint.steps →
+        AreEvents file g h t loads n 0 (events_of file harts t (m.local t).joint (m.value k)) →
+        StandFrom h n (watched_turn file harts g t (steps loads) (m.local t) (m.value k)).told }
 {}
 
 /// Where an era begins, the machine stays, and what stands is that after it.

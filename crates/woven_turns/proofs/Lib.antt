@@ -6,4 +6,5 @@ pub mod Given
 pub mod Placing
 pub mod Loading
 pub mod Cutting
+pub mod Following
 mod Example

@@ -3,3 +3,4 @@ pub mod Weave
 pub mod Turns
 pub mod Cells
 pub mod Cuts
+pub mod Following

@@ -24,13 +24,14 @@ ghost use Rattle.shared_table.specs.declared.view.Item.TheVariants.{Take, Give};
 ghost use Rattle.shared_table.specs.Layouts.{objects_of};
 ghost use Rattle.shared_table.specs.Past.{Past, turns_of, log_of, Lawful};
 ghost use Rattle.turn_orders.specs.Lists.{Each, In, SameMembers};
-ghost use Rattle.turn_orders.specs.Machine.{State, Turn};
-ghost use Rattle.turn_orders.specs.LineUp.{Deed, of_thread, of_place, last_value, IsTurn, IsLineUp, Draws, IsSorted};
+ghost use Rattle.turn_orders.specs.Machine.{State, Turn, after};
+ghost use Rattle.turn_orders.specs.LineUp.{Deed, calls, of_thread, of_place, last_value, IsTurn, IsLineUp, Draws, IsSorted};
 ghost use Rattle.woven_turns.specs.Steps.{Stands, AllRaise};
 ghost use Rattle.woven_turns.specs.Weave.{Tags, LinesUp, weave, first_deeds, WasTold, IsSeatOfThread, Worked};
 ghost use Rattle.woven_turns.specs.Turns.{DrewStamp, TurnOf, PlaceInList};
 ghost use Rattle.woven_turns.specs.Cells.{Touch, touch, EarlierBy, among, Timed, LoadRule};
 ghost use Rattle.woven_turns.specs.Cuts.{CutAt};
+ghost use Rattle.woven_turns.specs.Following.{left_by, deeds_of, FollowsEach, FollowsAll};
 
 /// The deeds of a round in the order of its past, and then those that used no object, line up from the state before the
 /// round. They are exactly the deeds that seats told and those alone, so whatever holds of each of these holds of each of the
@@ -124,4 +125,16 @@ pub fn loads_law<E>()
 pub fn cut_law()
     ensures lawful { (lay : Layout) (late early : Past) → Lawful lay (late ++ early) → Lawful lay early }
     ensures cut { (lay : Layout) (past : Past) (m : ℕ) → Lawful lay past → m ≤ length (log_of 0 past) → CutAt past m }
+{}
+
+/// A machine that follows each deed from where it stands follows each line of them, whose other deeds are a line after the
+/// first; and what it makes of a line's first part is the first part of what it makes of the line. So what relates the state
+/// that the deeds tell to that of the machine holds after each deed.
+pub fn follow_law<L, O, A, T, M, P, B, U, G>()
+    ensures rest { (m : State L O) (d : Deed L O A T) (ds : List (Deed L O A T)) → LinesUp m (d ∷ ds) → LinesUp (left_by m d) ds }
+    ensures parts { (turn : Turn M P B U) (act_of : Deed L O A T → B) (n : State M P) (xs ys : List (Deed L O A T)) →
+        deeds_of turn act_of n (xs ++ ys) ≡ deeds_of turn act_of n xs ++ deeds_of turn act_of (after turn n (calls (deeds_of turn act_of n xs))) ys }
+    ensures all { (turn : Turn M P B U) (act_of : Deed L O A T → B) (matches : Deed L O A T → Deed M P B U → Type 0) (stands : State L O → State M P → G → Type 0) (is_made : Deed L O A T → Type 0) →
+        FollowsEach turn act_of matches stands is_made → (xs : List (Deed L O A T)) (m : State L O) (n : State M P) (g : G) →
+        LinesUp m xs → Each is_made xs → stands m n g → FollowsAll turn act_of matches stands m n xs }
 {}
