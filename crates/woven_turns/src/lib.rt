@@ -31,7 +31,7 @@ ghost use Rattle.woven_turns.specs.Weave.{Tags, LinesUp, weave, first_deeds, Was
 ghost use Rattle.woven_turns.specs.Turns.{DrewStamp, TurnOf, PlaceInList};
 ghost use Rattle.woven_turns.specs.Cells.{Touch, touch, EarlierBy, among, Timed, LoadRule};
 ghost use Rattle.woven_turns.specs.Cuts.{CutAt};
-ghost use Rattle.woven_turns.specs.Following.{left_by, deeds_of, FollowsEach, FollowsAll};
+ghost use Rattle.woven_turns.specs.Following.{left_by, deeds_of};
 
 /// The deeds of a round in the order of its past, and then those that used no object, line up from the state before the
 /// round. They are exactly the deeds that seats told and those alone, so whatever holds of each of these holds of each of the
@@ -127,14 +127,12 @@ pub fn cut_law()
     ensures cut { (lay : Layout) (past : Past) (m : ℕ) → Lawful lay past → m ≤ length (log_of 0 past) → CutAt past m }
 {}
 
-/// A machine that follows each deed from where it stands follows each line of them, whose other deeds are a line after the
-/// first; and what it makes of a line's first part is the first part of what it makes of the line. So what relates the state
-/// that the deeds tell to that of the machine holds after each deed.
-pub fn follow_law<L, O, A, T, M, P, B, U, G>()
+/// After its first deed the others of a line are a line; and what a machine that follows deeds makes of a line's first part is
+/// the first part of what it makes of the line. With these, `proofs/Following` has the lemma `follows_all` over relations of
+/// the caller's, which no contract can name: a machine that follows each deed from where it stands follows each line of
+/// deeds, and stands after each of them.
+pub fn follow_law<L, O, A, T, M, P, B, U>()
     ensures rest { (m : State L O) (d : Deed L O A T) (ds : List (Deed L O A T)) → LinesUp m (d ∷ ds) → LinesUp (left_by m d) ds }
     ensures parts { (turn : Turn M P B U) (act_of : Deed L O A T → B) (n : State M P) (xs ys : List (Deed L O A T)) →
         deeds_of turn act_of n (xs ++ ys) ≡ deeds_of turn act_of n xs ++ deeds_of turn act_of (after turn n (calls (deeds_of turn act_of n xs))) ys }
-    ensures all { (turn : Turn M P B U) (act_of : Deed L O A T → B) (matches : Deed L O A T → Deed M P B U → Type 0) (stands : State L O → State M P → G → Type 0) (is_made : Deed L O A T → Type 0) →
-        FollowsEach turn act_of matches stands is_made → (xs : List (Deed L O A T)) (m : State L O) (n : State M P) (g : G) →
-        LinesUp m xs → Each is_made xs → stands m n g → FollowsAll turn act_of matches stands m n xs }
 {}

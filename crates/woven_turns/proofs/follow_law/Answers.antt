@@ -1,4 +1,4 @@
-use Rattle.woven_turns.proofs.Following.{rest_lines, deeds_on, follows_all}
+use Rattle.woven_turns.proofs.Following.{rest_lines, deeds_on}
 use Rattle.woven_turns.proofs.follow_law.Goals as goal
 
 pub returns-clause-rest : goal.returns-clause-rest
@@ -6,6 +6,3 @@ returns-clause-rest g c m d ds h = rest_lines m d ds h
 
 pub returns-clause-parts : goal.returns-clause-parts
 returns-clause-parts g c turn act_of n xs ys = deeds_on turn act_of n xs ys
-
-pub returns-clause-all : goal.returns-clause-all
-returns-clause-all g c turn act_of matches stands is_made step xs m n g2 h made r = follows_all turn act_of matches stands is_made step xs m n g2 h made r
