@@ -1,0 +1,5 @@
+use Rattle.event_laws.proofs.Notes.{era_stands}
+use Rattle.event_laws.proofs.era_law.Goals as goal
+
+pub returns : goal.returns
+returns c limits keeper leaving h m x s made = era_stands limits keeper leaving h m x s made
