@@ -39,10 +39,11 @@ use Rattle.detector.specs.Stands.{Stands, awaited}
 use Rattle.detector.specs.Checking.{Checking, Half, IsStanding}
 use Rattle.detector.proofs.CheckLaws.{StoresWithin, cell_below, shadow_start, shadow_step, shadow_end}
 use Rattle.detector.proofs.PartLaws.{NoneOn, IsInjective, part_of_block, parts_apart, zip_parts}
-use Rattle.detector.proofs.Laws.{side_told, still_watcher, other_watcher, within_push}
-use Rattle.detector.proofs.Events.{by_it, desk_stays, keeps, settled_stays, fits}
+use Rattle.detector.proofs.Laws.{side_told}
+use Rattle.detector.proofs.Placed.{watcher_but, stands_event}
+use Rattle.event_laws.proofs.Longer.{era_stays, no_era}
+use Rattle.run_laws.specs.Moments.{IsBy}
 use Rattle.std.proofs.Math.ListN.{length-set}
-use Rattle.detector.proofs.Standing.{desk_after, era_stays, by_one, no_era, watcher-set}
 use Rattle.run_record.specs.declared.report.Side.{Side}
 
 -- ---- the checks so far
@@ -134,7 +135,7 @@ after_access d t a shadow raced =
     let w = watcher_of d t in
     record d { shadow = shadow; watchers = slice_set d.watchers t (noted w (event_of a)); waiting = waits_for w a raced d.waiting }
 
-module _ (granules : ℕ) (limits : Limits) (from : ℕ) (leaving : Option ℕ) (h : List Moment) (m : Moment) (d : Detected) (t : ℕ) (a : Access) (shadow : List ℕ) (s : Stands granules limits from leaving h d) (going : IsGoing d t) (made : m.item ≡ Does t (event_of a)) (granule_of : ℕ → Option ℕ)
+module _ (granules : ℕ) (limits : Limits) (from : ℕ) (h : List Moment) (m : Moment) (d : Detected) (t : ℕ) (a : Access) (shadow : List ℕ) (s : Stands granules limits from None h d) (going : IsGoing d t) (made : m.item ≡ Does t (event_of a)) (granule_of : ℕ → Option ℕ)
     (k : Checking granules limits h t a (map pair_of (parts_of granule_of a)) m.checks shadow) where
   -- the thread's clock finds what the watcher's does
   found_is : first_race_in ((clocks_now limits.epochs h).thread t) m.checks ≡ first_race_in (slice_index (watcher_of d t).clock) m.checks
@@ -154,23 +155,11 @@ module _ (granules : ℕ) (limits : Limits) (from : ℕ) (leaving : Option ℕ) 
     loads = k.loads;
   }
 
-  pub stands_access : (raced : Option (Check × ℕ)) → first_race_in (slice_index (watcher_of d t).clock) m.checks ≡ raced → t < length d.watchers → Stands granules limits from leaving (h ++ m ∷ []) (after_access d t a shadow raced)
-  stands_access raced is watched = record {
-    limits_are = s.limits_are;
-    era = s.era ∙ sym (era_stays limits.epochs h m (no_era t m.item (by_it granules limits from h m d t leaving (event_of a) s going made)));
-    desk = desk_after limits.epochs limits.slots h m d.desk (desk_stays granules limits from h m d t leaving (event_of a) s going made (λ x. cc) (λ c x. cc));
-    objects = keeps granules limits from h m d t leaving (event_of a) s going made tt;
-    object_slots = s.object_slots;
-    watchers = λ u. elim (watcher-set d t u (noted (watcher_of d t) (event_of a)) watched) [
-      | inl same ↦ subst (λ (x : Watched). IsWatcherAt limits (h ++ m ∷ []) u x) (sym same.1) (subst (λ (v : ℕ). IsWatcherAt limits (h ++ m ∷ []) v (noted (watcher_of d t) (event_of a))) (sym same.0) (still_watcher limits h m t (watcher_of d t) (event_of a) (s.watchers t) made refl refl refl))
-      | inr other ↦ subst (λ (x : Watched). IsWatcherAt limits (h ++ m ∷ []) u x) (sym other.1) (other_watcher limits h m u (watcher_of d u) (s.watchers u) (by_one t u m.item (by_it granules limits from h m d t leaving (event_of a) s going made) other.0) (no_era t m.item (by_it granules limits from h m d t leaving (event_of a) s going made)))
-    ];
-    settled = settled_stays granules limits from h m d t leaving (event_of a) s going made refl refl;
-    as_many = length-set d.watchers t (noted (watcher_of d t) (event_of a)) ∙ s.as_many;
-    within = within_push limits.epochs limits.slots h m s.within (fits granules limits from h m d t leaving (event_of a) s going made m.item made);
-    shadow = shadow_end granules limits.slots h m shadow k.shadow_is;
-    waiting = waiting_after raced is;
-  }
+  pub stands_access : (raced : Option (Check × ℕ)) → first_race_in (slice_index (watcher_of d t).clock) m.checks ≡ raced → t < length d.watchers → Stands granules limits from None (h ++ m ∷ []) (after_access d t a shadow raced)
+  stands_access raced is watched =
+      stands_event granules limits from h m d (after_access d t a shadow raced) t s going (event_of a) made tt refl refl
+      (s.era ∙ sym (era_stays limits.epochs h m (no_era t m.item (subst (IsBy t) (sym made) refl)))) refl (watcher_but d t (noted (watcher_of d t) (event_of a)) watched)
+      (length-set d.watchers t (noted (watcher_of d t) (event_of a)) ∙ s.as_many) (shadow_end granules limits.slots h m shadow k.shadow_is) (waiting_after raced is)
 
 -- ---- along the parts
 

@@ -1,179 +1,204 @@
--- Each event of a thread, and the detector after it.
-use Rattle.std.proofs.Common.{◌≡◌, ℕ, suc, ◌+◌, ◌<◌, ◌≤◌, inl, inr, ◌==◌, ◌&&◌, Bool, true, false, cond, max, Option, Some, None, List, [], ◌∷◌, ◌++◌, length, refl, ap, sym, subst, ◌∙◌, arith, eqb-true, eq-eqb}
-use Rattle.std.specs.Prelude.{slice_index, nat_lt}
+-- The detector after each event that has no check.
+use Rattle.std.proofs.Common.{◌≡◌, ℕ, zero, suc, ◌+◌, ◌<◌, ◌⊎◌, ◌==◌, ◌&&◌, Bool, true, false, cond, Option, Some, None, List, [], ◌∷◌, ◌++◌, length, get_or, length-append, inl, inr, refl, ap, sym, subst, ◌∙◌, arith, eq-eqb, ne_eqb}
+use Rattle.std.specs.Prelude.{map, slice_set, slice_index, option_map}
+use Rattle.std.proofs.Math.ListN.{length-set}
+use Rattle.std.proofs.lemmas.List.{get_or-set_same}
 use Rattle.run_record.specs.declared.event.Event.{Event}
 use Rattle.run_record.specs.declared.event.Event.TheVariants as events
 use Rattle.run_record.specs.declared.event.Part.{Part}
+use Rattle.run_record.specs.declared.entry.Label.{Label}
 use Rattle.run_record.specs.declared.limits.Limits.{Limits}
-use Rattle.run_laws.specs.Moments.{Item, Does, Moment, items, IsBy}
-use Rattle.run_laws.specs.Labels.{Labels, next_labels, event_labels, slot_after, raises, is_end, raised, holds}
-use Rattle.run_laws.specs.Clocks.{Clocks, next_clocks, event_clocks, taken_from, clock_at, Given, Ended, Of}
-use Rattle.run_laws.specs.Present.{labels_now, label_now, clocks_now}
-use Rattle.run_laws.proofs.PresentLaw.{clocks_now-push, labels_now-push}
-use Rattle.vector_clock.specs.Clocks.{joined}
-use Rattle.vector_clock.proofs.ClockLaws.{length-joined}
+use Rattle.run_laws.specs.Moments.{Does, Moment, IsBy}
+use Rattle.run_laws.specs.Labels.{raises}
+use Rattle.run_laws.specs.Present.{labels_now, label_now, clocks_now, queue_now}
+use Rattle.slot_desk.specs.declared.answers.Created.TheVariants.{Thread, Full}
 use Rattle.slot_desk.specs.declared.answers.Joined.TheVariants.{Done}
-use Rattle.slot_desk.specs.Desks.{DeskContents, thread_of}
+use Rattle.slot_desk.specs.Desks.{DeskContents, thread_of, held_from}
 use Rattle.slot_desk.specs.Steps as desks
-use Rattle.slot_desk.specs.History.{IsDeskAt, Tells}
-use Rattle.slot_desk.proofs.HistoryLaw.{at_event, clock_begun, clock_joined}
-use Rattle.sync_slab.specs.Objects.{clock_in}
-use Rattle.sync_slab.specs.Channels.{KeepsChannels, IsElsewhere, everywhere}
-use Rattle.sync_slab.proofs.ChannelLaws.{keeps-elsewhere, acquired, length-clock_in}
-use Rattle.race_core.specs.Watched.{with_clock, noted}
-use Rattle.race_core.specs.History.{IsWatcherAt, IsWithin, IsClock, era_now}
-use Rattle.detector.specs.Detected.{Detected, watcher_of, with_clock_of, after_begin, after_join, after_acquire, after_note, IsGoing}
-use Rattle.detector.specs.Stands.{Stands, AreSettled}
-use Rattle.detector.proofs.Laws.{taking_watcher, still_watcher, whole_clock, within_push}
-use Rattle.detector.proofs.Standing.{stands_thread, desk_before, item-seam, clocks_before}
+use Rattle.slot_desk.proofs.HistorySteps.{labelled_holds}
+use Rattle.race_core.specs.Watched.{Watched, new_watched, noted, unlabelled, next_label}
+use Rattle.turn_laws.specs.Going.{spent_by}
+use Rattle.turn_orders.specs.Machine.{but}
+use Rattle.turn_orders.proofs.Functions.{but_same}
+use Rattle.report_laws.proofs.CollectedLaw.{push_unchecked}
+use Rattle.event_laws.specs.Heard.{IsGranted, ObjectsAfter, raised_or_lost, raised_or_lost_to, lost_label, lost_label_to, watcher_after, desk_after}
+use Rattle.event_laws.proofs.Longer.{era_stays, no_era}
+use Rattle.event_laws.proofs.Raises.{own_entry, either_way, its_slot}
+use Rattle.detector.specs.Detected.{Detected, watcher_of, with_watcher, after_begin, after_join, after_acquire, after_create, after_end, after_note, Releases, Destroys, Clears, IsGoing, IsLeaving}
+use Rattle.detector.specs.Stands.{Stands, is_leaving, awaited}
+use Rattle.detector.proofs.Standing.{shadow_stays}
+use Rattle.detector.proofs.Placed.{one_place, kept_of, to_kept, watcher_but, leaves_by, going_on, stands_event}
 
-module _ (granules : ℕ) (limits : Limits) (from : ℕ) (h : List Moment) (m : Moment) (d : Detected) (t : ℕ) (leaving : Option ℕ) (e : Event) (s : Stands granules limits from leaving h d) (going : IsGoing d t) (made : m.item ≡ Does t e) where
-  -- the thread's watcher, in the present era
-  pub present : (watcher_of d t).era ≡ era_now limits.epochs h
-  present = going.era ∙ s.era
+-- ---- lists of watchers
 
-  pub its_label : (watcher_of d t).label ≡ label_now limits.epochs h t
-  its_label = (s.watchers t).label present
+-- one more element, where it is what stands for the missing ones
+get_or-snoc : (f : ℕ → Watched) (k : ℕ) (xs : List Watched) (u : ℕ) → get_or (xs ++ f (k + length xs) ∷ []) u (f (k + u)) ≡ get_or xs u (f (k + u))
+get_or-snoc f k [] zero = refl
+get_or-snoc f k [] (suc u) = refl
+get_or-snoc f k (x ∷ xs) zero = refl
+get_or-snoc f k (x ∷ xs) (suc u) =
+    let p : k + suc (length xs) ≡ suc k + length xs = omega arith in
+    let q : k + suc u ≡ suc k + u = omega arith in
+    rw (p, q) (get_or-snoc f (suc k) xs u)
 
-  pub its_clock : IsClock (watcher_of d t).clock ((clocks_now limits.epochs h).thread t)
-  its_clock = (s.watchers t).clock present
+get_or-new : (limits : Limits) (child : ℕ) (xs : List Watched) (u : ℕ) → child ≡ length xs → get_or (xs ++ new_watched child limits ∷ []) u (new_watched u limits) ≡ get_or xs u (new_watched u limits)
+get_or-new limits child xs u same =
+    let p : child ≡ 0 + length xs = omega arith in
+    let q : u ≡ 0 + u = omega arith in
+    let e = get_or-snoc (λ (t : ℕ). new_watched t limits) 0 xs u in
+    ap (λ (c : ℕ). get_or (xs ++ new_watched c limits ∷ []) u (new_watched u limits)) p ∙ (ap (λ (v : ℕ). get_or (xs ++ new_watched (0 + length xs) limits ∷ []) u (new_watched v limits)) q ∙ (e ∙ ap (λ (v : ℕ). get_or xs u (new_watched v limits)) (sym q)))
 
-  pub by_it : IsBy t m.item
-  by_it = subst (IsBy t) (sym made) refl
+set_clock : (d : Detected) (t : ℕ) (w : Watched) → t < length d.watchers → w.clock ≡ (watcher_of d t).clock → (watcher_of (with_watcher d t w) t).clock ≡ (watcher_of d t).clock
+set_clock d t w l same = ap (λ (x : Watched). x.clock) (get_or-set_same d.watchers t w (new_watched t d.limits) l) ∙ same
 
-  pub at_item : items (h ++ m ∷ []) (length h) ≡ Does t e
-  at_item = item-seam h m ∙ made
-
-  pub clocks_event : clocks_now limits.epochs (h ++ m ∷ []) ≡ event_clocks limits.epochs (labels_now limits.epochs h) (clocks_now limits.epochs h) t e
-  clocks_event = clocks_now-push limits.epochs h m ∙ ap (next_clocks limits.epochs (labels_now limits.epochs h) (clocks_now limits.epochs h)) made
-
-  -- no attachment
-  pub fits : (item : Item) → item ≡ Does t e → Rattle.race_core.specs.History.AttachesWithin limits.slots item
-  fits (Does u f) same = tt
-  fits _ same = absurd (cc)
-
-  pub keeps : IsElsewhere everywhere e → KeepsChannels everywhere d.era (clocks_now limits.epochs (h ++ m ∷ [])) d.objects
-  keeps elsewhere = subst (λ (k : Clocks). KeepsChannels everywhere d.era k d.objects) (sym clocks_event) (keeps-elsewhere limits.epochs (labels_now limits.epochs h) everywhere d.era t e (clocks_now limits.epochs h) d.objects elsewhere s.objects)
-
-  pub desk_at : IsDeskAt limits.epochs limits.slots (items (h ++ m ∷ [])) (length h) d.desk
-  desk_at = desk_before limits.epochs limits.slots h m d.desk s.desk
-
-  pub desk_stays : (e ≡ events.End → ⊥) → ((child : ℕ) → e ≡ events.Create child → ⊥) → IsDeskAt limits.epochs limits.slots (items (h ++ m ∷ [])) (suc (length h)) d.desk
-  desk_stays no_end no_create = at_event limits.epochs limits.slots (items (h ++ m ∷ [])) (length h) d.desk t e desk_at at_item no_end no_create
-
-  -- the labels after the event
-  pub labels_event : labels_now limits.epochs (h ++ m ∷ []) ≡ event_labels limits.epochs (labels_now limits.epochs h) t e
-  labels_event = labels_now-push limits.epochs h m ∙ ap (next_labels limits.epochs (labels_now limits.epochs h)) made
-
-  pub same_slot : (o : Option ℕ) → raises e ≡ 0 → is_end e ≡ false → slot_after limits.epochs (labels_now limits.epochs h).epoch o e ≡ o
-  same_slot None no_raise no_last = refl
-  same_slot (Some r) no_raise no_last = rw (no_last, eq-eqb (raises e) 0 no_raise) refl
-
-  pub slots_stay : raises e ≡ 0 → is_end e ≡ false → (u : ℕ) → (labels_now limits.epochs (h ++ m ∷ [])).slot_of u ≡ (labels_now limits.epochs h).slot_of u
-  slots_stay no_raise no_last u = ap (λ (l : Labels). l.slot_of u) labels_event ∙ go (u == t) refl
-    where
-      go : (b : Bool) → u == t ≡ b → cond b (slot_after limits.epochs (labels_now limits.epochs h).epoch ((labels_now limits.epochs h).slot_of t) e) ((labels_now limits.epochs h).slot_of u) ≡ (labels_now limits.epochs h).slot_of u
-      go true q = same_slot ((labels_now limits.epochs h).slot_of t) no_raise no_last ∙ ap (labels_now limits.epochs h).slot_of (sym (eqb-true u t q))
-      go false q = refl
-
-  pub settled_by : ((u : ℕ) → (labels_now limits.epochs (h ++ m ∷ [])).slot_of u ≡ (labels_now limits.epochs h).slot_of u) → AreSettled leaving (labels_now limits.epochs (h ++ m ∷ [])) d.desk
-  settled_by stay sid a owner = elim (s.settled sid a owner) [ inl is_leaving ↦ inl is_leaving | inr held ↦ inr (stay a.tid ∙ held) ]
-
-  pub settled_stays : raises e ≡ 0 → is_end e ≡ false → AreSettled leaving (labels_now limits.epochs (h ++ m ∷ [])) d.desk
-  settled_stays no_raise no_last = settled_by (slots_stay no_raise no_last)
-
-  -- an event that takes no clock in and leaves none
-  pub still : m.checks ≡ [] → raises e ≡ 0 → is_end e ≡ false → taken_from t e ≡ None → IsElsewhere everywhere e → (e ≡ events.End → ⊥) → ((child : ℕ) → e ≡ events.Create child → ⊥) → Stands granules limits from leaving (h ++ m ∷ []) (after_note d t e)
-  still none no_raise no_last alone elsewhere no_end no_create =
-      stands_thread granules limits from h m d t leaving leaving d.desk d.objects (noted (watcher_of d t) e) s by_it none going.watched (fits m.item made) (desk_stays no_end no_create) refl (keeps elsewhere) refl
-      (still_watcher limits h m t (watcher_of d t) e (s.watchers t) made no_raise no_last alone) (settled_stays no_raise no_last)
-
-  -- an event that takes a clock in
-  pub taking : m.checks ≡ [] → (clock : List ℕ) → raises e ≡ 0 → is_end e ≡ false → IsElsewhere everywhere e → (e ≡ events.End → ⊥) → ((child : ℕ) → e ≡ events.Create child → ⊥) → length clock ≡ limits.slots →
-      IsClock clock ((clocks_now limits.epochs (h ++ m ∷ [])).thread t) → noted (with_clock (watcher_of d t) clock) e ≡ with_clock (watcher_of d t) clock → Stands granules limits from leaving (h ++ m ∷ []) (with_clock_of d t clock)
-  taking none clock no_raise no_last elsewhere no_end no_create long known same =
-      stands_thread granules limits from h m d t leaving leaving d.desk d.objects (with_clock (watcher_of d t) clock) s by_it none going.watched (fits m.item made) (desk_stays no_end no_create) refl (keeps elsewhere) refl
-      (subst (IsWatcherAt limits (h ++ m ∷ []) t) same (taking_watcher limits h m t (watcher_of d t) e clock (s.watchers t) made no_raise no_last present long known)) (settled_stays no_raise no_last)
-
-  -- what the thread knows after the event
-  pub thread_event : (r : ℕ) → (clocks_now limits.epochs (h ++ m ∷ [])).thread t r ≡ max ((clocks_now limits.epochs h).thread t r) (clock_at (clocks_now limits.epochs h) (taken_from t e) r) + raised limits.epochs (labels_now limits.epochs h) t e r
-  thread_event r = ap (λ (k : Clocks). k.thread t r) clocks_event ∙ own (t == t) (eq-eqb t t refl)
-    where
-      own : (b : Bool) → b ≡ true → cond b (max ((clocks_now limits.epochs h).thread t r) (clock_at (clocks_now limits.epochs h) (taken_from t e) r) + raised limits.epochs (labels_now limits.epochs h) t e r) ((clocks_now limits.epochs h).thread t r) ≡ max ((clocks_now limits.epochs h).thread t r) (clock_at (clocks_now limits.epochs h) (taken_from t e) r) + raised limits.epochs (labels_now limits.epochs h) t e r
-      own true q = refl
-      own false q = absurd (cc)
-
-  pub not_raised : raises e ≡ 0 → (r : ℕ) → raised limits.epochs (labels_now limits.epochs h) t e r ≡ 0
-  not_raised no_raise r = go (holds ((labels_now limits.epochs h).slot_of t) r && nat_lt ((labels_now limits.epochs h).epoch r) limits.epochs)
-    where
-      go : (b : Bool) → cond b (raises e) 0 ≡ 0
-      go true = no_raise
-      go false = refl
-
-  pub taken : raises e ≡ 0 → (r : ℕ) → (clocks_now limits.epochs (h ++ m ∷ [])).thread t r ≡ max ((clocks_now limits.epochs h).thread t r) (clock_at (clocks_now limits.epochs h) (taken_from t e) r)
-  taken no_raise r = let a = thread_event r in let b = not_raised no_raise r in omega arith
-
-  pub tells_now : Tells limits.slots (watcher_of d t).clock ((clocks_now limits.epochs h).thread t)
-  tells_now r l = sym (its_clock r)
-
-  pub long_now : length (watcher_of d t).clock ≡ limits.slots
-  long_now = (s.watchers t).slots
-
-  -- beyond the slots nothing is known
-  pub beyond : (r : ℕ) → limits.slots ≤ r → (clocks_now limits.epochs (h ++ m ∷ [])).thread t r ≡ 0
-  beyond r l = (within_push limits.epochs limits.slots h m s.within (fits m.item made)).thread t r l
-
-long_told : (n : ℕ) (clock : List ℕ) (o : Option (List ℕ)) → ((other : List ℕ) → o ≡ Some other → length other ≡ n) → length clock ≡ n → length (desks.joined_told clock o) ≡ n
-long_told n clock None all long = long
-long_told n clock (Some other) all long = length-joined clock other (long ∙ sym (all other refl)) ∙ long
-
--- thread t begins
-pub stands_begin : (granules : ℕ) (limits : Limits) (from : ℕ) (leaving : Option ℕ) (h : List Moment) (m : Moment) (d : Detected) (t : ℕ) → Stands granules limits from leaving h d → IsGoing d t → m.item ≡ Does t events.Begin → m.checks ≡ [] → Stands granules limits from leaving (h ++ m ∷ []) (after_begin d t)
-stands_begin granules limits from leaving h m d t s going made none =
-    let clock = desks.joined_told (watcher_of d t).clock (thread_of d.desk t).told in
-    let k = clocks_before limits.epochs h m in
-    let long : length clock ≡ limits.slots = long_told limits.slots (watcher_of d t).clock (thread_of d.desk t).told (s.desk.desk.told.long t) (long_now granules limits from h m d t leaving events.Begin s going made) in
-    let at = desk_at granules limits from h m d t leaving events.Begin s going made in
-    let tells = tells_now granules limits from h m d t leaving events.Begin s going made in
-    let known : (r : ℕ) → r < limits.slots → (clocks_now limits.epochs (h ++ m ∷ [])).thread t r ≡ slice_index clock r =
-    λ r l. taken granules limits from h m d t leaving events.Begin s going made refl r
-    ∙ ap (λ (c : Clocks). max ((clocks_now limits.epochs h).thread t r) (c.spot (Of (Given t)) r)) (sym k)
-    ∙ clock_begun limits.epochs limits.slots (items (h ++ m ∷ [])) (length h) d.desk t (watcher_of d t).clock ((clocks_now limits.epochs h).thread t) at going.alive (s.watchers t).slots tells r l in
-    taking granules limits from h m d t leaving events.Begin s going made none clock refl refl tt (λ x. cc) (λ c x. cc) long
-    (whole_clock limits.slots clock ((clocks_now limits.epochs (h ++ m ∷ [])).thread t) long known (beyond granules limits from h m d t leaving events.Begin s going made)) refl
-
-long_joined : (n of : ℕ) (desk : DeskContents) (clock : List ℕ) → ((tid : ℕ) (other : List ℕ) → (thread_of desk tid).told ≡ Some other → length other ≡ n) → length clock ≡ n → length (desks.clock_after_join desk of clock) ≡ n
-long_joined n of desk clock all long = go (nat_lt of desk.made) (thread_of desk of).lives
+raised_clock : (w : Watched) (l : Label) → lost_label w ≡ Some l → (raised_or_lost w).clock ≡ w.clock
+raised_clock w l lost = go (next_label w.greatest w.label) lost
   where
-    go : (a b : Bool) → length (cond a (cond b clock (desks.joined_told clock (thread_of desk of).told)) clock) ≡ n
-    go true true = long
-    go true false = long_told n clock (thread_of desk of).told (all of) long
-    go false b = long
+    go : (o : Option Label) → lost_label_to o w.label ≡ Some l → (raised_or_lost_to w o).clock ≡ w.clock
+    go None q = refl
+    go (Some x) q = absurd (cc)
 
--- it joins an ended thread
-pub stands_join : (granules : ℕ) (limits : Limits) (from : ℕ) (leaving : Option ℕ) (h : List Moment) (m : Moment) (d : Detected) (t of : ℕ) → Stands granules limits from leaving h d → IsGoing d t → m.item ≡ Does t (events.Join of) → m.checks ≡ [] → desks.join_answer d.desk of ≡ Done → Stands granules limits from leaving (h ++ m ∷ []) (after_join d t of)
-stands_join granules limits from leaving h m d t of s going made none done =
-    let e : Event = events.Join of in
-    let clock = desks.clock_after_join d.desk of (watcher_of d t).clock in
-    let k = clocks_before limits.epochs h m in
-    let long : length clock ≡ limits.slots = long_joined limits.slots of d.desk (watcher_of d t).clock s.desk.desk.told.long (long_now granules limits from h m d t leaving e s going made) in
-    let at = desk_at granules limits from h m d t leaving e s going made in
-    let tells = tells_now granules limits from h m d t leaving e s going made in
-    let known : (r : ℕ) → r < limits.slots → (clocks_now limits.epochs (h ++ m ∷ [])).thread t r ≡ slice_index clock r =
-    λ r l. taken granules limits from h m d t leaving e s going made refl r
-    ∙ ap (λ (c : Clocks). max ((clocks_now limits.epochs h).thread t r) (c.spot (Of (Ended of)) r)) (sym k)
-    ∙ clock_joined limits.epochs limits.slots (items (h ++ m ∷ [])) (length h) d.desk of (watcher_of d t).clock ((clocks_now limits.epochs h).thread t) at done (s.watchers t).slots tells r l in
-    taking granules limits from h m d t leaving e s going made none clock refl refl tt (λ x. cc) (λ c x. cc) long
-    (whole_clock limits.slots clock ((clocks_now limits.epochs (h ++ m ∷ [])).thread t) long known (beyond granules limits from h m d t leaving e s going made)) refl
+-- a desk that creates isn't full, and names the next thread
+record Creates (d : DeskContents) (child : ℕ) : Type 0 where
+  room : desks.is_full d ≡ false
+  next : child ≡ d.made
 
--- it takes in what was released
-pub stands_acquire : (granules : ℕ) (limits : Limits) (from : ℕ) (leaving : Option ℕ) (h : List Moment) (m : Moment) (d : Detected) (t addr : ℕ) (part : Part) → Stands granules limits from leaving h d → IsGoing d t → m.item ≡ Does t (events.Acquire addr part) → m.checks ≡ [] → Stands granules limits from leaving (h ++ m ∷ []) (after_acquire d t addr part)
-stands_acquire granules limits from leaving h m d t addr part s going made none =
-    let e : Event = events.Acquire addr part in
-    let mine = (watcher_of d t).clock in
-    let clock = joined mine (clock_in d.objects d.era addr part) in
-    let as_long : length mine ≡ d.objects.slots = (s.watchers t).slots ∙ sym s.object_slots in
-    let long : length clock ≡ limits.slots = length-joined mine (clock_in d.objects d.era addr part) (as_long ∙ sym (length-clock_in d.objects d.era addr part s.objects.objects)) ∙ (s.watchers t).slots in
-    let known = acquired limits.epochs (labels_now limits.epochs h) everywhere d.era t addr part (clocks_now limits.epochs h) d.objects mine s.objects refl as_long (its_clock granules limits from h m d t leaving e s going made) in
-    taking granules limits from h m d t leaving e s going made none clock refl refl tt (λ x. cc) (λ c x. cc) long
-    (λ r. known r ∙ ap (λ (k : Clocks). k.thread t r) (sym (clocks_event granules limits from h m d t leaving e s going made))) refl
+creates : (d : DeskContents) (child : ℕ) → desks.created d ≡ Thread child → Creates d child
+creates d child made = go (desks.is_full d) refl made
+  where
+    go : (b : Bool) → desks.is_full d ≡ b → cond b Full (Thread d.made) ≡ Thread child → Creates d child
+    go true q e = absurd (cc)
+    go false q e = record { room = q; next = cc }
+
+module _ (granules : ℕ) (limits : Limits) (from : ℕ) (h : List Moment) (m : Moment) (d : Detected) (t : ℕ) (s : Stands granules limits from None h d) (going : IsGoing d t) (none : m.checks ≡ []) where
+  abbrev w : Watched
+  w = watcher_of d t
+
+  abbrev later : List Moment
+  later = h ++ m ∷ []
+
+  -- shadow, candidates and era stay
+  quiet :
+      (after : Detected) (e : Event) → m.item ≡ Does t e → IsGranted d.desk t e → ObjectsAfter d.era w.clock e d.objects after.objects → after.limits ≡ d.limits → after.era ≡ d.era → desk_after d.desk t w.clock e ≡ after.desk →
+      ((u : ℕ) → but (watcher_of d) t (watcher_after (thread_of d.desk t).told d.objects d.desk e w) u ≡ watcher_of after u) → length after.watchers ≡ after.desk.made → after.shadow ≡ d.shadow → after.waiting ≡ d.waiting →
+      Stands granules limits from (leaves_by t e w) later after
+  quiet after e made granted changed limits_are era desk watchers as_many shadow waiting =
+      stands_event granules limits from h m d after t s going e made granted changed limits_are
+      (era ∙ (s.era ∙ sym (era_stays limits.epochs h m (no_era t m.item (subst (IsBy t) (sym made) refl))))) desk watchers as_many
+      (rw shadow (shadow_stays granules limits.slots h m d.shadow none s.shadow)) (rw waiting (push_unchecked limits.epochs h from (map awaited d.waiting) m s.waiting none))
+
+  as_many_set : (x : Watched) → length (slice_set d.watchers t x) ≡ d.desk.made
+  as_many_set x = length-set d.watchers t x ∙ s.as_many
+
+  -- with the watcher that it had, it is the same
+  same_watcher : (u : ℕ) → but (watcher_of d) t (watcher_of d t) u ≡ watcher_of d u
+  same_watcher u = ap (λ (f : ℕ → Watched). f u) (but_same (watcher_of d) t)
+
+  -- ---- events that raise no epoch
+
+  pub stands_begin : m.item ≡ Does t events.Begin → Stands granules limits from None later (after_begin d t)
+  stands_begin made = quiet (after_begin d t) events.Begin made tt refl refl refl refl (watcher_but d t _ going.watched) (as_many_set _) refl refl
+
+  pub stands_join : (of : ℕ) → m.item ≡ Does t (events.Join of) → desks.join_answer d.desk of ≡ Done → Stands granules limits from None later (after_join d t of)
+  stands_join of made done = quiet (after_join d t of) (events.Join of) made done refl refl refl refl (watcher_but d t _ going.watched) (as_many_set _) refl refl
+
+  pub stands_acquire : (addr : ℕ) (part : Part) → m.item ≡ Does t (events.Acquire addr part) → Stands granules limits from None later (after_acquire d t addr part)
+  stands_acquire addr part made =
+      quiet (after_acquire d t addr part) (events.Acquire addr part) made tt refl refl refl refl
+      (λ u. ap (λ (era : ℕ). but (watcher_of d) t (Rattle.race_core.specs.Watched.with_clock w (Rattle.vector_clock.specs.Clocks.joined w.clock (Rattle.sync_slab.specs.Objects.clock_in d.objects era addr part))) u) going.era ∙ watcher_but d t _ going.watched u)
+      (as_many_set _) refl refl
+
+  pub stands_end : m.item ≡ Does t events.End → Stands granules limits from None later (after_end d t)
+  stands_end made = quiet (after_end d t) events.End made going.alive refl refl refl refl (watcher_but d t _ going.watched) (as_many_set _ ∙ made_stays (Rattle.slot_desk.specs.Desks.held_of d.desk t)) refl refl
+    where
+      made_stays : (o : Option (ℕ × ℕ)) → d.desk.made ≡ (Rattle.std.specs.Option.option_map_or (λ (x : ℕ × ℕ). desks.ended d.desk t x.0 (slice_index w.clock x.0) w.clock) o d.desk).made
+      made_stays None = refl
+      made_stays (Some x) = refl
+
+  pub stands_destroy : (addr : ℕ) (after : Detected) → m.item ≡ Does t (events.Destroy addr) → Destroys d after addr → Stands granules limits from None later after
+  stands_destroy addr after made r =
+      quiet after (events.Destroy addr) made tt (r.ends, r.objects) (ap (λ (x : Detected). x.limits) r.rest) (ap (λ (x : Detected). x.era) r.rest) (ap (λ (x : Detected). x.desk) (sym r.rest))
+      (λ u. same_watcher u ∙ ap (λ (x : Detected). watcher_of x u) (sym r.rest)) (ap (λ (x : Detected). length x.watchers) r.rest ∙ (s.as_many ∙ ap (λ (x : Detected). x.desk.made) (sym r.rest))) (ap (λ (x : Detected). x.shadow) r.rest) (ap (λ (x : Detected). x.waiting) r.rest)
+
+  pub stands_clear : (addr : ℕ) (after : Detected) → m.item ≡ Does t (events.Clear addr) → Clears d after addr → Stands granules limits from None later after
+  stands_clear addr after made r =
+      quiet after (events.Clear addr) made tt (r.removes, r.objects) (ap (λ (x : Detected). x.limits) r.rest) (ap (λ (x : Detected). x.era) r.rest) (ap (λ (x : Detected). x.desk) (sym r.rest))
+      (λ u. same_watcher u ∙ ap (λ (x : Detected). watcher_of x u) (sym r.rest)) (ap (λ (x : Detected). length x.watchers) r.rest ∙ (s.as_many ∙ ap (λ (x : Detected). x.desk.made) (sym r.rest))) (ap (λ (x : Detected). x.shadow) r.rest) (ap (λ (x : Detected). x.waiting) r.rest)
+
+  -- one that only its own thread hears of
+  pub stands_note : (e : Event) → m.item ≡ Does t e → raises e ≡ 0 → IsGranted d.desk t e → ObjectsAfter d.era w.clock e d.objects d.objects → desk_after d.desk t w.clock e ≡ d.desk → watcher_after (thread_of d.desk t).told d.objects d.desk e w ≡ noted w e → Stands granules limits from None later (after_note d t e)
+  stands_note e made flat granted same desk watcher =
+      subst (λ (o : Option ℕ). Stands granules limits from o later (after_note d t e)) (rw (ne_eqb (raises e) 1 (λ q. let z = flat in omega arith)) refl)
+      (quiet (after_note d t e) e made granted same refl refl desk (λ u. ap (λ (x : Watched). but (watcher_of d) t x u) watcher ∙ watcher_but d t (noted w e) going.watched u) (as_many_set _) refl refl)
+
+  -- ---- events that raise it
+
+  pub stands_release : (addr : ℕ) (part : Part) (replaces : Bool) (after : Detected) → m.item ≡ Does t (events.Release addr part replaces) → Releases d after t addr part replaces → Stands granules limits from (option_map (λ (l : Label). t) (lost_label w)) later after
+  stands_release addr part replaces after made r =
+      quiet after (events.Release addr part replaces) made tt (r.puts, r.objects) (ap (λ (x : Detected). x.limits) r.rest) (ap (λ (x : Detected). x.era) r.rest) (ap (λ (x : Detected). x.desk) (sym r.rest))
+      (λ u. watcher_but d t (raised_or_lost w) going.watched u ∙ ap (λ (x : Detected). watcher_of x u) (sym r.rest)) (ap (λ (x : Detected). length x.watchers) r.rest ∙ (as_many_set _ ∙ ap (λ (x : Detected). x.desk.made) (sym r.rest))) (ap (λ (x : Detected). x.shadow) r.rest) (ap (λ (x : Detected). x.waiting) r.rest)
+
+  pub stands_create : (child : ℕ) → m.item ≡ Does t (events.Create child) → desks.created d.desk ≡ Thread child → Stands granules limits from (option_map (λ (l : Label). t) (lost_label w)) later (after_create d t child)
+  stands_create child made created =
+      let c = creates d.desk child created in
+      let count : child ≡ length (slice_set d.watchers t (raised_or_lost w)) = (let a = as_many_set (raised_or_lost w) in let b = c.next in omega arith) in
+      quiet (after_create d t child) (events.Create child) made created refl refl refl refl
+      (λ u. watcher_but d t (raised_or_lost w) going.watched u ∙ sym (get_or-new d.limits child (slice_set d.watchers t (raised_or_lost w)) u count))
+      (length-append (slice_set d.watchers t (raised_or_lost w)) (new_watched child d.limits ∷ []) ∙ (let a = as_many_set (raised_or_lost w) in let b : (desks.after_create d.desk w.clock).made ≡ d.desk.made + 1 = rw c.room refl in omega arith)) refl refl
+
+  -- ---- the label that is lost
+
+  module _ (e : Event) (made : m.item ≡ Does t e) (raising : raises e ≡ 1) where
+    two_ways :
+        ((going.label.epoch < limits.epochs) × (raised_or_lost w ≡ Rattle.race_core.specs.Watched.raised w) × (lost_label w ≡ None))
+        ⊎ ((going.label.epoch ≡ limits.epochs) × (raised_or_lost w ≡ unlabelled w) × (lost_label w ≡ Some going.label))
+    two_ways = either_way limits one_place (is_leaving None) h m (kept_of d) t e (to_kept granules limits from None h d s) (going_on granules limits from h m d d t s going) made raising
+
+    label_is : w.label ≡ label_now limits.epochs h t
+    label_is = (s.watchers t).label (going.era ∙ s.era)
+
+    -- what is told to be lost is what the history says is spent
+    pub spent_is : lost_label w ≡ spent_by limits.epochs (label_now limits.epochs h t) e
+    spent_is = sym (ap (λ (o : Option Label). spent_by limits.epochs o e) (sym label_is ∙ going.labelled) ∙ elim two_ways [
+      | inl up ↦ rw (eq-eqb (raises e) 1 raising, ne_eqb going.label.epoch limits.epochs (λ q. let z = up.0 in omega arith), up.2) refl
+      | inr lost ↦ rw (eq-eqb (raises e) 1 raising, eq-eqb going.label.epoch limits.epochs lost.0, lost.2) refl
+    ])
+
+    -- what the desk has of it, and its clock's own entry
+    is_leaving_now : (desk : DeskContents) (after : Detected) (l : Label) → lost_label w ≡ Some l → after.desk ≡ desk → desk.slots ≡ d.desk.slots → desk.greatest ≡ d.desk.greatest → (thread_of desk t).lives ≡ true → t < length after.watchers → (watcher_of after t).clock ≡ w.clock → IsLeaving after t l
+    is_leaving_now desk after l lost desk_is slots greatest alive watched clock =
+        let slot = its_slot limits one_place (is_leaving None) h m (kept_of d) t e (to_kept granules limits from None h d s) (going_on granules limits from h m d d t s going) made in
+        let held = labelled_holds limits.epochs limits.slots (labels_now limits.epochs h) (clocks_now limits.epochs h) (queue_now limits.epochs limits.slots h) d.desk t going.label.sid s.desk.desk slot.0 in
+        let own = own_entry limits h t w going.label (s.watchers t) (going.era ∙ s.era) going.labelled in
+        let is : going.label ≡ l = elim two_ways [ inl up ↦ absurd (differ (sym up.2 ∙ lost)) | inr gone ↦ some_is (sym gone.2 ∙ lost) ] in
+        let at : going.label.epoch ≡ limits.epochs = elim two_ways [ inl up ↦ absurd (differ (sym up.2 ∙ lost)) | inr gone ↦ gone.0 ] in
+        subst (IsLeaving after t) is (record {
+          watched = watched;
+          alive = rw desk_is alive;
+          since = held.1.0;
+          held = ap (λ (x : DeskContents). held_from 0 t x.slots) desk_is ∙ (ap (held_from 0 t) slots ∙ held.1.1);
+          greatest = ap (λ (c : List ℕ). slice_index c going.label.sid) clock ∙ (own ∙ (at ∙ (sym s.desk.desk.greatest ∙ (sym greatest ∙ ap (λ (x : DeskContents). x.greatest) (sym desk_is)))));
+        })
+      where
+        differ : None ≡ Some l → ⊥
+        differ q = cc
+
+        some_is : Some going.label ≡ Some l → going.label ≡ l
+        some_is q = cc
+
+  pub leaves_release : (addr : ℕ) (part : Part) (replaces : Bool) (after : Detected) (l : Label) → m.item ≡ Does t (events.Release addr part replaces) → Releases d after t addr part replaces → lost_label w ≡ Some l → IsLeaving after t l
+  leaves_release addr part replaces after l made r lost =
+      let y = raised_or_lost w in
+      is_leaving_now (events.Release addr part replaces) made refl d.desk after l lost (ap (λ (x : Detected). x.desk) r.rest) refl refl going.alive
+      (subst (λ (x : Detected). t < length x.watchers) (sym r.rest) (let a = length-set d.watchers t y in let b = going.watched in omega arith))
+      (ap (λ (x : Detected). (watcher_of x t).clock) r.rest ∙ set_clock d t y going.watched (raised_clock w l lost))
+
+  pub leaves_create : (child : ℕ) (l : Label) → m.item ≡ Does t (events.Create child) → desks.created d.desk ≡ Thread child → (thread_of (desks.after_create d.desk w.clock) t).lives ≡ true → lost_label w ≡ Some l → IsLeaving (after_create d t child) t l
+  leaves_create child l made created alive lost =
+      let c = creates d.desk child created in
+      let y = raised_or_lost w in
+      let long = length-set d.watchers t y in
+      let count : child ≡ length (slice_set d.watchers t y) = (let a = s.as_many in let b = c.next in omega arith) in
+      is_leaving_now (events.Create child) made refl (desks.after_create d.desk w.clock) (after_create d t child) l lost refl (rw c.room refl) (rw c.room refl) alive
+      (let a = length-append (slice_set d.watchers t y) (new_watched child d.limits ∷ []) in let b = going.watched in omega arith)
+      (ap (λ (x : Watched). x.clock) (get_or-new d.limits child (slice_set d.watchers t y) t count) ∙ set_clock d t y going.watched (raised_clock w l lost))

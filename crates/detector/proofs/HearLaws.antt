@@ -10,9 +10,8 @@ use Rattle.run_record.specs.declared.entry.Label.{Label}
 use Rattle.elf_image.specs.File.{granule_of, granules_of}
 use Rattle.run_laws.specs.Moments.{Does, Moment, items}
 use Rattle.run_laws.specs.Accesses.{Access, access_of}
-use Rattle.run_laws.specs.Labels.{raises, is_end}
-use Rattle.run_laws.specs.Clocks.{taken_from}
-use Rattle.sync_slab.specs.Channels.{IsElsewhere, everywhere}
+use Rattle.run_laws.specs.Labels.{raises}
+use Rattle.sync_slab.specs.Objects.{SyncObjects}
 use Rattle.std.proofs.lemmas.List.{set-get_or}
 use Rattle.run_laws.specs.Checks.{StoresRightly}
 use Rattle.run_laws.specs.Present.{labels_now, label_now, clocks_now, queue_now}
@@ -24,20 +23,20 @@ use Rattle.slot_desk.proofs.HistorySteps.{labelled_holds}
 use Rattle.race_core.specs.Walk.{planned, pair_of}
 use Rattle.run_laws.specs.Accesses.{parts_of}
 use Rattle.race_core.specs.declared.watcher.Candidate.{Candidate}
-use Rattle.race_core.specs.Watched.{Watched, AreWatcherLimits, new_watched}
+use Rattle.race_core.specs.Watched.{Watched, AreWatcherLimits, new_watched, noted}
 use Rattle.turn_laws.specs.Going.{spent_by, AreRightNow, LoadsNow}
 use Rattle.report_laws.specs.Sound.{first_race_in}
 use Rattle.detector.specs.declared.access.Raced.{Raced}
-use Rattle.detector.specs.Detected.{Detected, watcher_of, IsGoing, IsLeaving, MayRaise, Releases, Destroys, Clears, after_begin, after_join, after_acquire, after_create, after_end, after_note, lost_label}
+use Rattle.detector.specs.Detected.{Detected, watcher_of, IsGoing, IsLeaving, MayRaise, Releases, Destroys, Clears, after_begin, after_join, after_acquire, after_create, after_end, after_note}
 use Rattle.detector.specs.Checked.{raced_of, waits_on}
 use Rattle.detector.specs.Checking.{Checking, IsStanding, ChecksAll}
 use Rattle.detector.specs.Stands.{Stands}
 use Rattle.slot_desk.specs.Desks.{DeskContents}
-use Rattle.detector.specs.Hears.{Hears, CanHear, desk_after}
-use Rattle.detector.proofs.Laws.{own_entry}
-use Rattle.detector.proofs.Events.{still, stands_begin, stands_join, stands_acquire}
-use Rattle.detector.proofs.Raises.{stands_release, leaves_release, spent_is}
-use Rattle.detector.proofs.Endings.{stands_create, leaves_create, stands_end, stands_destroy, stands_clear}
+use Rattle.event_laws.specs.Heard.{desk_after, lost_label}
+use Rattle.detector.specs.Hears.{Hears, CanHear}
+use Rattle.event_laws.proofs.Raises.{own_entry}
+use Rattle.event_laws.specs.Heard.{IsGranted, ObjectsAfter, watcher_after}
+use Rattle.detector.proofs.Events.{stands_begin, stands_join, stands_acquire, stands_end, stands_destroy, stands_clear, stands_note, stands_release, stands_create, leaves_release, leaves_create, spent_is}
 use Rattle.detector.proofs.AccessLaws.{event_of, waits_for, after_access, stands_access, right_after}
 
 -- ---- what the calls need
@@ -132,10 +131,10 @@ hears_access file old mid waited new t place e before after raced going all wait
       of_event = all.of_event;
       right = λ from h s.
           let m : Moment = record { entry = 0; round = 0; item = Does t (event_of a); checks = all.added } in
-          subst (λ (x : Event). AreRightNow old.limits.epochs (granule_of file) h t x all.added) (sym e_is) (right_after (granules_of file) old.limits from None h m old t a mid.shadow s going refl (granule_of file) (checked from h all.added refl s));
+          subst (λ (x : Event). AreRightNow old.limits.epochs (granule_of file) h t x all.added) (sym e_is) (right_after (granules_of file) old.limits from h m old t a mid.shadow s going refl (granule_of file) (checked from h all.added refl s));
       stands = λ from h m s made none.
           subst (Stands (granules_of file) old.limits from None (h ++ m ∷ [])) (sym after_is)
-          (stands_access (granules_of file) old.limits from None h m old t a mid.shadow s going (made ∙ ap (Does t) e_is) (granule_of file) (checked from h m.checks none s) found (ap (first_race_in (slice_index (watcher_of old t).clock)) none) going.watched);
+          (stands_access (granules_of file) old.limits from h m old t a mid.shadow s going (made ∙ ap (Does t) e_is) (granule_of file) (checked from h m.checks none s) found (ap (first_race_in (slice_index (watcher_of old t).clock)) none) going.watched);
       spent_is = λ from h s. spent_none old.limits.epochs (label_now old.limits.epochs h t) e (ap raises e_is);
       desk = ap (λ (d : Detected). d.desk) after_is ∙ ap (λ (x : Event). desk_after old.desk t (watcher_of old t).clock x) (sym e_is);
       leaves = λ from h l s q. absurd (cc);
@@ -163,19 +162,17 @@ is_plain _ = false
 record IsPlain (e : Event) : Type 0 where
   alone : access_of e ≡ None
   flat : raises e ≡ 0
-  no_last : is_end e ≡ false
-  taken : (t : ℕ) → taken_from t e ≡ None
-  elsewhere : IsElsewhere everywhere e
-  no_end : e ≡ events.End → ⊥
-  no_create : (child : ℕ) → e ≡ events.Create child → ⊥
+  granted : (d : DeskContents) (t : ℕ) → IsGranted d t e
+  objects : (era : ℕ) (clock : List ℕ) (set : SyncObjects) → ObjectsAfter era clock e set set
   desk : (d : DeskContents) (t : ℕ) (clock : List ℕ) → d ≡ desk_after d t clock e
+  watcher : (given : Option (List ℕ)) (set : SyncObjects) (d : DeskContents) (w : Watched) → watcher_after given set d e w ≡ noted w e
 
 plain : (e : Event) → is_plain e ≡ true → IsPlain e
-plain (events.Enter frame) q = record { alone = refl; flat = refl; no_last = refl; taken = λ t. refl; elsewhere = tt; no_end = λ x. cc; no_create = λ c x. cc; desk = λ d t clock. refl }
-plain events.Leave q = record { alone = refl; flat = refl; no_last = refl; taken = λ t. refl; elsewhere = tt; no_end = λ x. cc; no_create = λ c x. cc; desk = λ d t clock. refl }
-plain (events.Lock addr read) q = record { alone = refl; flat = refl; no_last = refl; taken = λ t. refl; elsewhere = tt; no_end = λ x. cc; no_create = λ c x. cc; desk = λ d t clock. refl }
-plain (events.Unlock addr read) q = record { alone = refl; flat = refl; no_last = refl; taken = λ t. refl; elsewhere = tt; no_end = λ x. cc; no_create = λ c x. cc; desk = λ d t clock. refl }
-plain (events.Put value count) q = record { alone = refl; flat = refl; no_last = refl; taken = λ t. refl; elsewhere = tt; no_end = λ x. cc; no_create = λ c x. cc; desk = λ d t clock. refl }
+plain (events.Enter frame) q = record { alone = refl; flat = refl; granted = λ d t. tt; objects = λ era clock set. refl; desk = λ d t clock. refl; watcher = λ given set d w. refl }
+plain events.Leave q = record { alone = refl; flat = refl; granted = λ d t. tt; objects = λ era clock set. refl; desk = λ d t clock. refl; watcher = λ given set d w. refl }
+plain (events.Lock addr read) q = record { alone = refl; flat = refl; granted = λ d t. tt; objects = λ era clock set. refl; desk = λ d t clock. refl; watcher = λ given set d w. refl }
+plain (events.Unlock addr read) q = record { alone = refl; flat = refl; granted = λ d t. tt; objects = λ era clock set. refl; desk = λ d t clock. refl; watcher = λ given set d w. refl }
+plain (events.Put value count) q = record { alone = refl; flat = refl; granted = λ d t. tt; objects = λ era clock set. refl; desk = λ d t clock. refl; watcher = λ given set d w. refl }
 plain _ q = absurd (cc)
 
 module _ (file : List ℕ) (old new : Detected) (t place : ℕ) (e : Event) (checks : List Check) (going : IsGoing old t) where
@@ -184,29 +181,29 @@ module _ (file : List ℕ) (old new : Detected) (t place : ℕ) (e : Event) (che
   renamed f d spent e_is new_is hears = subst (λ (x : Event). Hears file old.limits old new t place x checks checks spent) (sym e_is) (subst (λ (n : Detected). Hears file old.limits old n t place f checks checks spent) (sym new_is) hears)
 
   pub hears_begin : e ≡ events.Begin → new ≡ after_begin old t → Hears file old.limits old new t place e checks checks None
-  hears_begin e_is new_is = renamed events.Begin (after_begin old t) None e_is new_is (hears_plain file old (after_begin old t) t place events.Begin checks refl refl (λ from h m s made none. stands_begin (granules_of file) old.limits from None h m old t s going made none) refl)
+  hears_begin e_is new_is = renamed events.Begin (after_begin old t) None e_is new_is (hears_plain file old (after_begin old t) t place events.Begin checks refl refl (λ from h m s made none. stands_begin (granules_of file) old.limits from h m old t s going none made) refl)
 
   pub hears_join : (of : ℕ) → e ≡ events.Join of → desks.join_answer old.desk of ≡ Done → new ≡ after_join old t of → Hears file old.limits old new t place e checks checks None
-  hears_join of e_is done new_is = renamed (events.Join of) (after_join old t of) None e_is new_is (hears_plain file old (after_join old t of) t place (events.Join of) checks refl refl (λ from h m s made none. stands_join (granules_of file) old.limits from None h m old t of s going made none done) refl)
+  hears_join of e_is done new_is = renamed (events.Join of) (after_join old t of) None e_is new_is (hears_plain file old (after_join old t of) t place (events.Join of) checks refl refl (λ from h m s made none. stands_join (granules_of file) old.limits from h m old t s going none of made done) refl)
 
   pub hears_acquire : (addr : ℕ) (part : Part) → e ≡ events.Acquire addr part → new ≡ after_acquire old t addr part → Hears file old.limits old new t place e checks checks None
-  hears_acquire addr part e_is new_is = renamed (events.Acquire addr part) (after_acquire old t addr part) None e_is new_is (hears_plain file old (after_acquire old t addr part) t place (events.Acquire addr part) checks refl refl (λ from h m s made none. stands_acquire (granules_of file) old.limits from None h m old t addr part s going made none) refl)
+  hears_acquire addr part e_is new_is = renamed (events.Acquire addr part) (after_acquire old t addr part) None e_is new_is (hears_plain file old (after_acquire old t addr part) t place (events.Acquire addr part) checks refl refl (λ from h m s made none. stands_acquire (granules_of file) old.limits from h m old t s going none addr part made) refl)
 
   pub hears_end : e ≡ events.End → new ≡ after_end old t → Hears file old.limits old new t place e checks checks None
-  hears_end e_is new_is = renamed events.End (after_end old t) None e_is new_is (hears_plain file old (after_end old t) t place events.End checks refl refl (λ from h m s made none. stands_end (granules_of file) old.limits from h m old t s going made none) refl)
+  hears_end e_is new_is = renamed events.End (after_end old t) None e_is new_is (hears_plain file old (after_end old t) t place events.End checks refl refl (λ from h m s made none. stands_end (granules_of file) old.limits from h m old t s going none made) refl)
 
   pub hears_destroy : (addr : ℕ) → e ≡ events.Destroy addr → Destroys old new addr → Hears file old.limits old new t place e checks checks None
-  hears_destroy addr e_is destroys = renamed (events.Destroy addr) new None e_is refl (hears_plain file old new t place (events.Destroy addr) checks refl refl (λ from h m s made none. stands_destroy (granules_of file) old.limits from h m old new t addr s going made none destroys) (ap (λ (d : Detected). d.desk) destroys.rest))
+  hears_destroy addr e_is destroys = renamed (events.Destroy addr) new None e_is refl (hears_plain file old new t place (events.Destroy addr) checks refl refl (λ from h m s made none. stands_destroy (granules_of file) old.limits from h m old t s going none addr new made destroys) (ap (λ (d : Detected). d.desk) destroys.rest))
 
   pub hears_clear : (addr : ℕ) → e ≡ events.Clear addr → Clears old new addr → Hears file old.limits old new t place e checks checks None
   hears_clear addr e_is clears = renamed (events.Clear addr) new None e_is refl
       (hears_plain file old new t place (events.Clear addr) checks refl refl
-      (λ from h m s made none. stands_clear (granules_of file) old.limits from h m old new t addr s going made none clears) (ap (λ (d : Detected). d.desk) clears.rest))
+      (λ from h m s made none. stands_clear (granules_of file) old.limits from h m old t s going none addr new made clears) (ap (λ (d : Detected). d.desk) clears.rest))
 
   pub hears_note : is_plain e ≡ true → new ≡ after_note old t e → Hears file old.limits old new t place e checks checks None
   hears_note is new_is =
       let p = plain e is in
-      renamed e (after_note old t e) None refl new_is (hears_plain file old (after_note old t e) t place e checks p.alone p.flat (λ from h m s made none. still (granules_of file) old.limits from h m old t None e s going made none p.flat p.no_last (p.taken t) p.elsewhere p.no_end p.no_create) (p.desk old.desk t (watcher_of old t).clock))
+      renamed e (after_note old t e) None refl new_is (hears_plain file old (after_note old t e) t place e checks p.alone p.flat (λ from h m s made none. stands_note (granules_of file) old.limits from h m old t s going none e made p.flat (p.granted old.desk t) (p.objects old.era (watcher_of old t).clock old.objects) (sym (p.desk old.desk t (watcher_of old t).clock)) (p.watcher (Rattle.slot_desk.specs.Desks.thread_of old.desk t).told old.objects old.desk (watcher_of old t))) (p.desk old.desk t (watcher_of old t).clock))
 
   pub hears_put : (value count : ℕ) → e ≡ events.Put value count → new ≡ old → Hears file old.limits old new t place e checks checks None
   hears_put value count e_is new_is = hears_note (ap is_plain e_is) (new_is ∙ (ap (λ (ws : List Watched). record old { watchers = ws }) (sym (set-get_or old.watchers t (new_watched t old.limits))) ∙ ap (after_note old t) (sym e_is)))
@@ -214,15 +211,15 @@ module _ (file : List ℕ) (old new : Detected) (t place : ℕ) (e : Event) (che
   pub hears_release : (addr : ℕ) (part : Part) (replaces : Bool) (spent : Option Label) → e ≡ events.Release addr part replaces → Releases old new t addr part replaces → spent ≡ lost_label (watcher_of old t) → Hears file old.limits old new t place e checks checks spent
   hears_release addr part replaces spent e_is releases is = renamed (events.Release addr part replaces) new spent e_is refl
       (hears_quiet file old new t place (events.Release addr part replaces) checks spent refl
-      (λ from h m s made none. subst (λ (o : Option Label). Stands (granules_of file) old.limits from (option_map (λ (l : Label). t) o) (h ++ m ∷ []) new) (sym is) (stands_release (granules_of file) old.limits from h m old new t addr part replaces s going made none releases))
-      (λ from h s. let m : Moment = record { entry = 0; round = 0; item = Does t (events.Release addr part replaces); checks = [] } in is ∙ spent_is (granules_of file) old.limits from h m old t (events.Release addr part replaces) s going refl refl refl)
-      (λ from h l s q. let m : Moment = record { entry = 0; round = 0; item = Does t (events.Release addr part replaces); checks = [] } in leaves_release (granules_of file) old.limits from h m old new t addr part replaces l s going refl refl releases (sym is ∙ q)) (ap (λ (d : Detected). d.desk) releases.rest))
+      (λ from h m s made none. subst (λ (o : Option Label). Stands (granules_of file) old.limits from (option_map (λ (l : Label). t) o) (h ++ m ∷ []) new) (sym is) (stands_release (granules_of file) old.limits from h m old t s going none addr part replaces new made releases))
+      (λ from h s. let m : Moment = record { entry = 0; round = 0; item = Does t (events.Release addr part replaces); checks = [] } in is ∙ spent_is (granules_of file) old.limits from h m old t s going refl (events.Release addr part replaces) refl refl)
+      (λ from h l s q. let m : Moment = record { entry = 0; round = 0; item = Does t (events.Release addr part replaces); checks = [] } in leaves_release (granules_of file) old.limits from h m old t s going refl addr part replaces new l refl releases (sym is ∙ q)) (ap (λ (d : Detected). d.desk) releases.rest))
 
   pub hears_create : (child : ℕ) (spent : Option Label) → e ≡ events.Create child → CanHear old t e → new ≡ after_create old t child → spent ≡ lost_label (watcher_of old t) → Hears file old.limits old new t place e checks checks spent
   hears_create child spent e_is can new_is is =
       let able = subst (CanHear old t) e_is can in
       renamed (events.Create child) (after_create old t child) spent e_is new_is
       (hears_quiet file old (after_create old t child) t place (events.Create child) checks spent refl
-      (λ from h m s made none. subst (λ (o : Option Label). Stands (granules_of file) old.limits from (option_map (λ (l : Label). t) o) (h ++ m ∷ []) (after_create old t child)) (sym is) (stands_create (granules_of file) old.limits from h m old t child s going made none able.0))
-      (λ from h s. let m : Moment = record { entry = 0; round = 0; item = Does t (events.Create child); checks = [] } in is ∙ spent_is (granules_of file) old.limits from h m old t (events.Create child) s going refl refl refl)
-      (λ from h l s q. let m : Moment = record { entry = 0; round = 0; item = Does t (events.Create child); checks = [] } in leaves_create (granules_of file) old.limits from h m old t child l s going refl refl able.0 able.1 (sym is ∙ q)) refl)
+      (λ from h m s made none. subst (λ (o : Option Label). Stands (granules_of file) old.limits from (option_map (λ (l : Label). t) o) (h ++ m ∷ []) (after_create old t child)) (sym is) (stands_create (granules_of file) old.limits from h m old t s going none child made able.0))
+      (λ from h s. let m : Moment = record { entry = 0; round = 0; item = Does t (events.Create child); checks = [] } in is ∙ spent_is (granules_of file) old.limits from h m old t s going refl (events.Create child) refl refl)
+      (λ from h l s q. let m : Moment = record { entry = 0; round = 0; item = Does t (events.Create child); checks = [] } in leaves_create (granules_of file) old.limits from h m old t s going refl child l refl able.0 able.1 (sym is ∙ q)) refl)

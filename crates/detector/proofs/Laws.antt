@@ -1,4 +1,4 @@
--- The laws of the crates below, by the names that they have here. (Those that aren't there yet are open.)
+-- The laws of watchers, by the names that they have here.
 use Rattle.std.proofs.Common.{◌≡◌, ℕ, suc, ◌<◌, ◌≤◌, Bool, false, Some, None, List, [], ◌∷◌, ◌++◌, length, get_or}
 use Rattle.std.specs.Prelude.{slice_index}
 use Rattle.run_record.specs.declared.event.Event.{Event}
@@ -28,18 +28,6 @@ use Rattle.race_core.specs.History.{era_now, IsClock, IsWatcherAt, IsWithin, Att
 pub first_watcher : (limits : Limits) (h : List Moment) (t : ℕ) → AreWatcherLimits limits → ((i : ℕ) → IsBy t (items h i) → ⊥) → IsWatcherAt limits h t (new_watched t limits)
 first_watcher = first
 
-pub other_watcher : (limits : Limits) (h : List Moment) (m : Moment) (t : ℕ) (w : Watched) →
-    IsWatcherAt limits h t w → (IsBy t m.item → ⊥) → (m.item ≡ NewEra → ⊥) → IsWatcherAt limits (h ++ m ∷ []) t w
-other_watcher = other
-
-pub nothing_watcher : (limits : Limits) (h : List Moment) (m : Moment) (t : ℕ) (w : Watched) →
-    IsWatcherAt limits h t w → m.item ≡ Notes t Nothing → IsWatcherAt limits (h ++ m ∷ []) t w
-nothing_watcher = nothing
-
-pub leave_watcher : (limits : Limits) (h : List Moment) (m : Moment) (t : ℕ) (w : Watched) (label : Label) →
-    IsWatcherAt limits h t w → m.item ≡ Notes t (Leave label) → IsWatcherAt limits (h ++ m ∷ []) t w
-leave_watcher = leave
-
 pub room_watcher : (limits : Limits) (h : List Moment) (t : ℕ) (w : Watched) → IsWatcherAt limits h t w → IsWatcherAt limits h t (with_room w)
 room_watcher limits h t w at = record {
   in_range = at.in_range;
@@ -59,42 +47,6 @@ room_watcher limits h t w at = record {
   slot = at.slot;
   epoch = at.epoch;
 }
-
-pub attach_watcher : (limits : Limits) (h : List Moment) (m : Moment) (t : ℕ) (w : Watched) (label : Label) (clock : List ℕ) →
-    IsWatcherAt limits h t w → m.item ≡ Notes t (Attach label) → w.era ≡ era_now limits.epochs h → label_now limits.epochs (h ++ m ∷ []) t ≡ Some label →
-    label.sid < limits.slots → 1 ≤ label.epoch → label.epoch ≤ limits.epochs →
-    length clock ≡ limits.slots → IsClock clock ((clocks_now limits.epochs (h ++ m ∷ [])).thread t) →
-    IsWatcherAt limits (h ++ m ∷ []) t (labelled (with_clock w clock) label)
-attach_watcher limits h m t w label clock at = attaches limits h m t w at label clock
-
-pub taking_watcher : (limits : Limits) (h : List Moment) (m : Moment) (t : ℕ) (w : Watched) (e : Event) (clock : List ℕ) →
-    IsWatcherAt limits h t w → m.item ≡ Does t e → raises e ≡ 0 → is_end e ≡ false → w.era ≡ era_now limits.epochs h →
-    length clock ≡ limits.slots → IsClock clock ((clocks_now limits.epochs (h ++ m ∷ [])).thread t) →
-    IsWatcherAt limits (h ++ m ∷ []) t (noted (with_clock w clock) e)
-taking_watcher limits h m t w e clock at = taking limits h m t w at e clock
-
-pub still_watcher : (limits : Limits) (h : List Moment) (m : Moment) (t : ℕ) (w : Watched) (e : Event) →
-    IsWatcherAt limits h t w → m.item ≡ Does t e → raises e ≡ 0 → is_end e ≡ false → taken_from t e ≡ None →
-    IsWatcherAt limits (h ++ m ∷ []) t (noted w e)
-still_watcher limits h m t w e at = still limits h m t w at e
-
-pub raised_watcher : (limits : Limits) (h : List Moment) (m : Moment) (t : ℕ) (w : Watched) (e : Event) (label : Label) →
-    IsWatcherAt limits h t w → m.item ≡ Does t e → raises e ≡ 1 → w.era ≡ era_now limits.epochs h → w.label ≡ Some label → label.epoch < limits.epochs →
-    IsWatcherAt limits (h ++ m ∷ []) t (raised (noted w e))
-raised_watcher limits h m t w e label at = rises limits h m t w at e label
-
-pub spent_watcher : (limits : Limits) (h : List Moment) (m : Moment) (t : ℕ) (w : Watched) (e : Event) (label : Label) →
-    IsWatcherAt limits h t w → m.item ≡ Does t e → raises e ≡ 1 → w.era ≡ era_now limits.epochs h → w.label ≡ Some label → limits.epochs ≤ label.epoch →
-    IsWatcherAt limits (h ++ m ∷ []) t (unlabelled (noted w e))
-spent_watcher limits h m t w e label at = spent limits h m t w at e label
-
-pub end_watcher : (limits : Limits) (h : List Moment) (m : Moment) (t : ℕ) (w : Watched) →
-    IsWatcherAt limits h t w → m.item ≡ Does t End → IsWatcherAt limits (h ++ m ∷ []) t (unlabelled (noted w End))
-end_watcher limits h m t w at = ends limits h m t w at
-
-pub era_watcher : (limits : Limits) (h : List Moment) (m : Moment) (t : ℕ) (w : Watched) →
-    IsWatcherAt limits h t w → m.item ≡ NewEra → IsWatcherAt limits (h ++ m ∷ []) t w
-era_watcher limits h m t w at = begins limits h m t w at
 
 pub enter_watcher : (limits : Limits) (h : List Moment) (t : ℕ) (w : Watched) → IsWatcherAt limits h t w → IsWatcherAt limits h t (in_era w (era_now limits.epochs h))
 enter_watcher limits h t w at = go (w.era == era_now limits.epochs h) refl
@@ -134,21 +86,8 @@ enter_watcher limits h t w at = go (w.era == era_now limits.epochs h) refl
           epoch = λ l q. absurd (cc);
         }
 
-pub own_entry : (limits : Limits) (h : List Moment) (t : ℕ) (w : Watched) (label : Label) →
-    IsWatcherAt limits h t w → w.era ≡ era_now limits.epochs h → w.label ≡ Some label → slice_index w.clock label.sid ≡ label.epoch
-own_entry limits h t w label at present is =
-    let p = label_parts limits.epochs (items h) (length h) t label (sym (at.label present) ∙ is) in
-    at.clock present label.sid ∙ (known_at limits.epochs (items h) (length h)).own t label.sid p.0 ∙ p.1
-
 pub side_told : (limits : Limits) (h : List Moment) (t : ℕ) (w : Watched) (a : Access) → IsWatcherAt limits h t w → side_of w a ≡ told_side h (length h) t a
 side_told limits h t w a at = rw (at.tid, at.frames, at.locks) refl
 
-pub within_push : (g n : ℕ) (h : List Moment) (m : Moment) →
-    IsWithin n (labels_now g h) (clocks_now g h) → AttachesWithin n m.item → IsWithin n (labels_now g (h ++ m ∷ [])) (clocks_now g (h ++ m ∷ []))
-within_push = push_within
-
 pub within_first : (g n : ℕ) → IsWithin n (labels_now g []) (clocks_now g [])
 within_first = first_within
-
-pub whole_clock : (n : ℕ) (clock : List ℕ) (known : ℕ → ℕ) → length clock ≡ n → ((r : ℕ) → r < n → known r ≡ slice_index clock r) → ((r : ℕ) → n ≤ r → known r ≡ 0) → IsClock clock known
-whole_clock n clock known long tells beyond r = elim (cases_lt r n) [ inl below ↦ sym (tells r below) | inr over ↦ get_or_past clock r 0 (omega arith) ∙ sym (beyond r over) ]

@@ -1,8 +1,7 @@
 pub mod Laws
 pub mod Standing
+pub mod Placed
 pub mod Events
-pub mod Raises
-pub mod Endings
 pub mod NoteLaws
 pub mod CheckLaws
 pub mod PartLaws

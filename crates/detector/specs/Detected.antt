@@ -11,6 +11,7 @@ use Rattle.vector_clock.specs.Clocks.{joined}
 use Rattle.sync_slab.specs.Objects.{SyncObject, SyncObjects, AreObjects, clock_in, Puts, Ends, Removes}
 use Rattle.race_core.specs.Watched.{Watched, new_watched, with_clock, unlabelled, labelled, raised, next_label, noted, in_era, with_room}
 use Rattle.race_core.specs.declared.watcher.Candidate.{Candidate}
+use Rattle.event_laws.specs.Heard.{raised_or_lost, released}
 
 -- The limits of the run; the present era; the desk; the synchronisation objects; one watcher a thread, by its number;
 -- the shadow words, four a granule; and the accesses of the round that have a candidate.
@@ -40,14 +41,6 @@ cells_at shadow granule = shadow_at shadow granule 0 ∷ shadow_at shadow granul
 
 -- ---- what passes clocks on
 
--- the epoch of the thread's label rises; where it was the greatest, the label is lost
-abbrev pub raised_or_lost_to : Watched → Option Label → Watched
-raised_or_lost_to w None = unlabelled w
-raised_or_lost_to w (Some l) = raised w
-
-abbrev pub raised_or_lost : Watched → Watched
-raised_or_lost w = raised_or_lost_to w (next_label w.greatest w.label)
-
 -- thread t takes in a clock
 abbrev pub with_clock_of : Detected → ℕ → List ℕ → Detected
 with_clock_of d t clock = with_watcher d t (with_clock (watcher_of d t) clock)
@@ -76,15 +69,9 @@ after_end d t =
     let w = watcher_of d t in
     record d { desk = desks.after_end d.desk t w.clock; watchers = slice_set d.watchers t (unlabelled w) }
 
--- what it releases to an object
-abbrev pub released : Detected → ℕ → ℕ → Part → Bool → SyncObject
-released d t addr part replaces =
-    let clock = (watcher_of d t).clock in
-    record { addr = addr; part = part; era = d.era; clock = if replaces then clock else joined (clock_in d.objects d.era addr part) clock }
-
 -- after a release: the object has what was released, and the thread's epoch has risen
 pub record Releases (old new : Detected) (t addr : ℕ) (part : Part) (replaces : Bool) : Type 0 where
-  pub puts : Puts old.objects new.objects (released old t addr part replaces)
+  pub puts : Puts old.objects new.objects (released old.objects old.era (watcher_of old t).clock addr part replaces)
   pub objects : AreObjects new.objects
   pub rest : new ≡ record (with_watcher old t (raised_or_lost (watcher_of old t))) { objects = new.objects }
 
@@ -119,14 +106,6 @@ pub record IsGoing (d : Detected) (t : ℕ) : Type 0 where
   pub era : (watcher_of d t).era ≡ d.era
   pub label : Label
   pub labelled : (watcher_of d t).label ≡ Some label
-
--- the label that is lost where the epoch can't rise
-abbrev pub lost_label_to : Option Label → Option Label → Option Label
-lost_label_to None label = label
-lost_label_to (Some next) label = None
-
-abbrev pub lost_label : Watched → Option Label
-lost_label w = lost_label_to (next_label w.greatest w.label) w.label
 
 -- Thread t has lost that label, and its slot has no epoch left: it is to leave it.
 pub record IsLeaving (d : Detected) (t : ℕ) (l : Label) : Type 0 where

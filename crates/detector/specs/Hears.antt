@@ -14,6 +14,7 @@ use Rattle.slot_desk.specs.Desks.{DeskContents, thread_of}
 use Rattle.slot_desk.specs.Steps as desks
 use Rattle.race_core.specs.Watched.{CanBeNoted}
 use Rattle.turn_laws.specs.Going.{spent_by, AreRightNow}
+use Rattle.event_laws.specs.Heard.{desk_after}
 use Rattle.detector.specs.Detected.{Detected, watcher_of, IsLeaving}
 use Rattle.detector.specs.Stands.{Stands}
 
@@ -22,12 +23,6 @@ abbrev pub CanHear : Detected → ℕ → Event → Type 0
 CanHear d t (events.Create child) = (desks.created d.desk ≡ Thread child) × ((thread_of (desks.after_create d.desk (watcher_of d t).clock) t).lives ≡ true)
 CanHear d t (events.Join ended) = desks.join_answer d.desk ended ≡ Done
 CanHear d t e = CanBeNoted (length (watcher_of d t).frames) e
-
--- the desk after the event of thread t, whose clock was that
-abbrev pub desk_after : DeskContents → ℕ → List ℕ → Event → DeskContents
-desk_after d t clock (events.Create child) = desks.after_create d clock
-desk_after d t clock events.End = desks.after_end d t clock
-desk_after d t clock e = d
 
 -- The thread's event is heard. Checks are added for it, which stand rightly; the detector stands as the history leaves it with
 -- the event; and what is told to be spent is the label that the event spends.

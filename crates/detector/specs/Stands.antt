@@ -1,16 +1,14 @@
 -- A detector that stands as a history leaves it.
-use Rattle.std.specs.Prelude.{◌≡◌, ◌≢◌, ◌⊎◌, ◌<◌, ℕ, ◌*◌, List, length, map, Option, Some}
+use Rattle.std.specs.Prelude.{◌≡◌, ◌≢◌, ◌<◌, ℕ, ◌*◌, ◌==◌, Bool, false, List, length, map, Option, Some, None}
 use Rattle.run_record.specs.declared.limits.Limits.{Limits}
 use Rattle.run_laws.specs.Moments.{Moment, items}
 use Rattle.run_laws.specs.Words.{sid}
 use Rattle.run_laws.specs.Present.{labels_now, clocks_now, cell_now}
-use Rattle.run_laws.specs.Labels.{Labels}
-use Rattle.slot_desk.specs.declared.slot.Attachment.{Attachment}
-use Rattle.slot_desk.specs.Desks.{DeskContents, slot_of}
 use Rattle.slot_desk.specs.History.{IsDeskAt}
 use Rattle.sync_slab.specs.Channels.{KeepsChannels, everywhere}
 use Rattle.race_core.specs.History.{IsWatcherAt, IsWithin, era_now}
 use Rattle.race_core.specs.declared.watcher.Candidate.{Candidate}
+use Rattle.event_laws.specs.Standing.{AreSettled}
 use Rattle.report_laws.specs.Awaited.{Awaited, Collects}
 use Rattle.detector.specs.Detected.{Detected, watcher_of, shadow_at}
 
@@ -24,9 +22,10 @@ pub record IsShadow (granules slots : ℕ) (h : List Moment) (shadow : List ℕ)
   pub last : (granule cell : ℕ) → granule < granules → cell < 4 → shadow_at shadow granule cell ≡ cell_now h granule cell
   pub within : (granule cell : ℕ) → granule < granules → cell < 4 → shadow_at shadow granule cell ≢ 0 → sid (shadow_at shadow granule cell) < slots
 
--- Each slot's owner has its label, or is the thread that is to leave the slot that it spent.
-abbrev pub AreSettled : Option ℕ → Labels → DeskContents → Type 0
-AreSettled leaving l d = (sid : ℕ) (a : Attachment) → (slot_of d sid).owner ≡ Some a → (leaving ≡ Some a.tid) ⊎ (l.slot_of a.tid ≡ Some sid)
+-- the thread, if any, is the one that is to leave the slot that it spent
+abbrev pub is_leaving : Option ℕ → ℕ → Bool
+is_leaving None t = false
+is_leaving (Some u) t = t == u
 
 -- The detector stands as the history leaves it: era, desk, objects, watchers and shadow are what the history says; and
 -- what waits are the accesses since that position that the test by clocks finds to race. Where a thread has spent its slot
@@ -38,7 +37,7 @@ pub record Stands (granules : ℕ) (limits : Limits) (from : ℕ) (leaving : Opt
   pub objects : KeepsChannels everywhere d.era (clocks_now limits.epochs h) d.objects
   pub object_slots : d.objects.slots ≡ limits.slots
   pub watchers : (t : ℕ) → IsWatcherAt limits h t (watcher_of d t)
-  pub settled : AreSettled leaving (labels_now limits.epochs h) d.desk
+  pub settled : AreSettled (is_leaving leaving) (labels_now limits.epochs h) d.desk
   pub as_many : length d.watchers ≡ d.desk.made
   pub within : IsWithin limits.slots (labels_now limits.epochs h) (clocks_now limits.epochs h)
   pub shadow : IsShadow granules limits.slots h d.shadow

@@ -16,7 +16,7 @@ use Rattle.sync_slab.proofs.ChannelLaws.{keeps-elsewhere, release_joined, releas
 use Rattle.race_core.specs.Watched.{Watched, noted}
 use Rattle.race_core.specs.History.{IsWatcherAt, era_now}
 use Rattle.turn_orders.specs.Machine.{but}
-use Rattle.turn_orders.proofs.Functions.{but_each}
+use Rattle.turn_orders.proofs.Functions.{but_each, but_same}
 use Rattle.event_laws.specs.Standing.{Kept, is_kept_at, AreSettled, Stands}
 use Rattle.event_laws.specs.Heard.{IsGoing, IsGiven, IfBegin, IsAtKeeper, IsGranted, ObjectsAfter, released, watcher_after, desk_after, kept_after, leaving_after, lost_label}
 use Rattle.event_laws.proofs.Threads.{thread_stands}
@@ -35,21 +35,21 @@ module _ (limits : Limits) (keeper : ℕ → ℕ) (leaving : ℕ → Bool) (h : 
   watcher_then (events.Create child) made is at granted = raising_watcher limits keeper leaving h m x t (events.Create child) s going made refl refl
   watcher_then events.End made is at granted = ended_watcher limits keeper leaving h m x t events.End s going made refl granted
   watcher_then (events.Join of) made is at granted = joined_watcher limits keeper leaving h m x t (events.Join of) s going made of granted refl
-  watcher_then (events.Enter pc) made is at granted = still_watcher limits keeper leaving h m x t (events.Enter pc) s going made refl refl refl
-  watcher_then events.Leave made is at granted = still_watcher limits keeper leaving h m x t events.Leave s going made refl refl refl
-  watcher_then (events.Lock addr read) made is at granted = still_watcher limits keeper leaving h m x t (events.Lock addr read) s going made refl refl refl
-  watcher_then (events.Unlock addr read) made is at granted = still_watcher limits keeper leaving h m x t (events.Unlock addr read) s going made refl refl refl
+  watcher_then (events.Enter pc) made is at granted = still_watcher limits keeper leaving h m x t (events.Enter pc) s made refl refl refl
+  watcher_then events.Leave made is at granted = still_watcher limits keeper leaving h m x t events.Leave s made refl refl refl
+  watcher_then (events.Lock addr read) made is at granted = still_watcher limits keeper leaving h m x t (events.Lock addr read) s made refl refl refl
+  watcher_then (events.Unlock addr read) made is at granted = still_watcher limits keeper leaving h m x t (events.Unlock addr read) s made refl refl refl
   watcher_then (events.Acquire addr part) made is at granted = acquired_watcher limits keeper leaving h m x t (events.Acquire addr part) s going made k addr part at refl
   watcher_then (events.Release addr part replaces) made is at granted = raising_watcher limits keeper leaving h m x t (events.Release addr part replaces) s going made refl refl
-  watcher_then (events.Destroy addr) made is at granted = still_watcher limits keeper leaving h m x t (events.Destroy addr) s going made refl refl refl
-  watcher_then (events.Access place addr size read atomic) made is at granted = still_watcher limits keeper leaving h m x t (events.Access place addr size read atomic) s going made refl refl refl
-  watcher_then (events.Put value count) made is at granted = still_watcher limits keeper leaving h m x t (events.Put value count) s going made refl refl refl
-  watcher_then (events.Clear addr) made is at granted = still_watcher limits keeper leaving h m x t (events.Clear addr) s going made refl refl refl
+  watcher_then (events.Destroy addr) made is at granted = still_watcher limits keeper leaving h m x t (events.Destroy addr) s made refl refl refl
+  watcher_then (events.Access place addr size read atomic) made is at granted = still_watcher limits keeper leaving h m x t (events.Access place addr size read atomic) s made refl refl refl
+  watcher_then (events.Put value count) made is at granted = still_watcher limits keeper leaving h m x t (events.Put value count) s made refl refl refl
+  watcher_then (events.Clear addr) made is at granted = still_watcher limits keeper leaving h m x t (events.Clear addr) s made refl refl refl
 
   -- ---- the desk
 
   plain_desk : (e : Event) → m.item ≡ Does t e → (e ≡ events.End → ⊥) → ((child : ℕ) → e ≡ events.Create child → ⊥) → IsDeskAt limits.epochs limits.slots (items later) (suc (length h)) x.desk
-  plain_desk e made = desk_stays limits keeper leaving h m x t e s going made
+  plain_desk e made = desk_stays limits keeper leaving h m x t e s made
 
   desk_then : (e : Event) → m.item ≡ Does t e → IsGranted x.desk t e → IsDeskAt limits.epochs limits.slots (items later) (suc (length h)) (desk_after x.desk t w.clock e)
   desk_then (events.Create child) made granted = created_desk limits keeper leaving h m x t (events.Create child) s going made child refl granted
@@ -74,7 +74,7 @@ module _ (limits : Limits) (keeper : ℕ → ℕ) (leaving : ℕ → Bool) (h : 
   as_before e desk no_raise settled sid a owner = elim (settled sid a owner) [ inl leaves ↦ inl (rw leaves refl) | inr held ↦ inr held ]
 
   plain_settled : (e : Event) → m.item ≡ Does t e → raises e ≡ 0 → is_end e ≡ false → AreSettled (leaving_after leaving t e w) (labels_now limits.epochs later) x.desk
-  plain_settled e made no_raise no_last = as_before e x.desk no_raise (settled_stays limits keeper leaving h m x t e s going made no_raise no_last)
+  plain_settled e made no_raise no_last = as_before e x.desk no_raise (settled_stays limits keeper leaving h m x t e s made no_raise no_last)
 
   settled_then : (e : Event) → m.item ≡ Does t e → IsGranted x.desk t e → AreSettled (leaving_after leaving t e w) (labels_now limits.epochs later) (desk_after x.desk t w.clock e)
   settled_then (events.Create child) made granted = settled_raising limits keeper leaving h m x t (events.Create child) s going made refl (desks.after_create x.desk w.clock) (created_owners limits keeper leaving h m x t (events.Create child) s going made)
@@ -150,9 +150,20 @@ module _ (limits : Limits) (keeper : ℕ → ℕ) (leaving : ℕ → Bool) (h : 
   event_stands e made is at granted changed =
       let after : ObjectsAfter (era_now limits.epochs h) w.clock e (x.objects k) set = subst (λ (era : ℕ). ObjectsAfter era w.clock e (x.objects k) set) going.present changed in
       thread_stands limits keeper leaving (leaving_after leaving t e w) h m x t (desk_after x.desk t w.clock e) (but x.objects k set) (watcher_after given (x.objects k) x.desk e w) s
-      (by_it limits keeper leaving h m x t e s going made) (fits limits keeper leaving h m x t e s going made) (desk_then e made granted)
+      (by_it limits keeper leaving h m x t e s made) (fits limits keeper leaving h m x t e s made) (desk_then e made granted)
       (but_each (λ (j : ℕ) (y : SyncObjects). KeepsChannels (is_kept_at keeper j) (era_now limits.epochs h) (clocks_now limits.epochs later) y) x.objects k set
-      (subst (λ (c : Clocks). KeepsChannels (is_kept_at keeper k) (era_now limits.epochs h) c set) (sym (clocks_event limits keeper leaving h m x t e s going made)) (objects_here e made after))
-      (keeps_else limits keeper leaving h m x t e s going made k at))
+      (subst (λ (c : Clocks). KeepsChannels (is_kept_at keeper k) (era_now limits.epochs h) c set) (sym (clocks_event limits keeper leaving h m x t e s made)) (objects_here e made after))
+      (keeps_else limits keeper leaving h m x t e s made k at))
       (but_each (λ (j : ℕ) (y : SyncObjects). y.slots ≡ limits.slots) x.objects k set (same_slots e after ∙ s.object_slots k) (λ j ne. s.object_slots j))
       (watcher_then e made is at granted) (settled_then e made granted)
+
+-- a thread that puts bytes on the output needs no label, and nothing changes
+pub put_stands : (limits : Limits) (keeper : ℕ → ℕ) (leaving : ℕ → Bool) (h : List Moment) (m : Moment) (x : Kept) (t value count : ℕ) → Stands limits keeper leaving h x → m.item ≡ Does t (events.Put value count) → Stands limits keeper leaving (h ++ m ∷ []) x
+put_stands limits keeper leaving h m x t value count s made =
+    let e : Event = events.Put value count in
+    subst (λ (ws : ℕ → Watched). Stands limits keeper leaving (h ++ m ∷ []) (record x { watchers = ws })) (but_same x.watchers t)
+    (thread_stands limits keeper leaving leaving h m x t x.desk x.objects (x.watchers t) s (by_it limits keeper leaving h m x t e s made) (fits limits keeper leaving h m x t e s made)
+    (desk_stays limits keeper leaving h m x t e s made (λ q. cc) (λ c q. cc))
+    (λ k. subst (λ (c : Clocks). KeepsChannels (is_kept_at keeper k) (era_now limits.epochs h) c (x.objects k)) (sym (clocks_event limits keeper leaving h m x t e s made))
+    (keeps-elsewhere limits.epochs (labels_now limits.epochs h) (is_kept_at keeper k) (era_now limits.epochs h) t e (clocks_now limits.epochs h) (x.objects k) tt (s.objects k)))
+    s.object_slots (still_watcher limits keeper leaving h m x t e s made refl refl refl) (settled_stays limits keeper leaving h m x t e s made refl refl))

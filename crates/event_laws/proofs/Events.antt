@@ -47,6 +47,66 @@ long_joined n of desk clock all long = go (nat_lt of desk.made) (thread_of desk 
     go true false = long_told n clock (thread_of desk of).told (all of) long
     go false b = long
 
+module _ (limits : Limits) (keeper : ℕ → ℕ) (leaving : ℕ → Bool) (h : List Moment) (m : Moment) (x : Kept) (t : ℕ) (e : Event) (s : Stands limits keeper leaving h x) (made : m.item ≡ Does t e) where
+  pub by_it : IsBy t m.item
+  by_it = subst (IsBy t) (sym made) refl
+
+  pub at_item : items (h ++ m ∷ []) (length h) ≡ Does t e
+  at_item = item-seam h m ∙ made
+
+  pub clocks_event : clocks_now limits.epochs (h ++ m ∷ []) ≡ event_clocks limits.epochs (labels_now limits.epochs h) (clocks_now limits.epochs h) t e
+  clocks_event = clocks_now-push limits.epochs h m ∙ ap (next_clocks limits.epochs (labels_now limits.epochs h) (clocks_now limits.epochs h)) made
+
+  pub labels_event : labels_now limits.epochs (h ++ m ∷ []) ≡ event_labels limits.epochs (labels_now limits.epochs h) t e
+  labels_event = labels_now-push limits.epochs h m ∙ ap (next_labels limits.epochs (labels_now limits.epochs h)) made
+
+  -- no attachment
+  fits_item : (item : Item) → item ≡ Does t e → AttachesWithin limits.slots item
+  fits_item (Does u f) same = tt
+  fits_item _ same = absurd (cc)
+
+  pub fits : AttachesWithin limits.slots m.item
+  fits = fits_item m.item made
+
+  -- ---- the desk and the slots
+
+  pub desk_there : IsDeskAt limits.epochs limits.slots (items (h ++ m ∷ [])) (length h) x.desk
+  desk_there = desk_before limits.epochs limits.slots h m x.desk s.desk
+
+  pub desk_stays : (e ≡ events.End → ⊥) → ((child : ℕ) → e ≡ events.Create child → ⊥) → IsDeskAt limits.epochs limits.slots (items (h ++ m ∷ [])) (suc (length h)) x.desk
+  desk_stays no_end no_create = at_event limits.epochs limits.slots (items (h ++ m ∷ [])) (length h) x.desk t e desk_there at_item no_end no_create
+
+  same_slot : (o : Option ℕ) → raises e ≡ 0 → is_end e ≡ false → slot_after limits.epochs (labels_now limits.epochs h).epoch o e ≡ o
+  same_slot None no_raise no_last = refl
+  same_slot (Some r) no_raise no_last = rw (no_last, eq-eqb (raises e) 0 no_raise) refl
+
+  slots_stay : raises e ≡ 0 → is_end e ≡ false → (u : ℕ) → (labels_now limits.epochs (h ++ m ∷ [])).slot_of u ≡ (labels_now limits.epochs h).slot_of u
+  slots_stay no_raise no_last u = ap (λ (l : Labels). l.slot_of u) labels_event ∙ go (u == t) refl
+    where
+      go : (b : Bool) → u == t ≡ b → cond b (slot_after limits.epochs (labels_now limits.epochs h).epoch ((labels_now limits.epochs h).slot_of t) e) ((labels_now limits.epochs h).slot_of u) ≡ (labels_now limits.epochs h).slot_of u
+      go true q = same_slot ((labels_now limits.epochs h).slot_of t) no_raise no_last ∙ ap (labels_now limits.epochs h).slot_of (sym (eqb-true u t q))
+      go false q = refl
+
+  pub settled_stays : raises e ≡ 0 → is_end e ≡ false → AreSettled leaving (labels_now limits.epochs (h ++ m ∷ [])) x.desk
+  settled_stays no_raise no_last sid a owner = elim (s.settled sid a owner) [ inl leaves ↦ inl leaves | inr held ↦ inr (slots_stay no_raise no_last a.tid ∙ held) ]
+
+  -- ---- objects of other places
+
+  elsewhere : (k : ℕ) (f : Event) → IsAtKeeper keeper k f → (j : ℕ) → j ≢ k → IsElsewhere (is_kept_at keeper j) f
+  elsewhere k (events.Release addr part replaces) at j ne = ne_eqb (keeper addr) j (λ q. ne (sym q ∙ sym at))
+  elsewhere k (events.Destroy addr) at j ne = ne_eqb (keeper addr) j (λ q. ne (sym q ∙ sym at))
+  elsewhere k (events.Clear addr) at j ne = ne_eqb (keeper addr) j (λ q. ne (sym q ∙ sym at))
+  elsewhere k _ at j ne = tt
+
+  pub keeps_else : (k : ℕ) → IsAtKeeper keeper k e → (j : ℕ) → j ≢ k → KeepsChannels (is_kept_at keeper j) (era_now limits.epochs h) (clocks_now limits.epochs (h ++ m ∷ [])) (x.objects j)
+  keeps_else k at j ne =
+      subst (λ (c : Clocks). KeepsChannels (is_kept_at keeper j) (era_now limits.epochs h) c (x.objects j)) (sym clocks_event)
+      (keeps-elsewhere limits.epochs (labels_now limits.epochs h) (is_kept_at keeper j) (era_now limits.epochs h) t e (clocks_now limits.epochs h) (x.objects j) (elsewhere k e at j ne) (s.objects j))
+
+  pub still_watcher : raises e ≡ 0 → is_end e ≡ false → taken_from t e ≡ None → IsWatcherAt limits (h ++ m ∷ []) t (noted (x.watchers t) e)
+  still_watcher no_raise no_last alone = still limits h m t (x.watchers t) (s.watchers t) e made no_raise no_last alone
+
+-- of a thread with a label
 module _ (limits : Limits) (keeper : ℕ → ℕ) (leaving : ℕ → Bool) (h : List Moment) (m : Moment) (x : Kept) (t : ℕ) (e : Event) (s : Stands limits keeper leaving h x) (going : IsGoing limits h (x.watchers t)) (made : m.item ≡ Does t e) where
   abbrev w : Watched
   w = x.watchers t
@@ -60,65 +120,10 @@ module _ (limits : Limits) (keeper : ℕ → ℕ) (leaving : ℕ → Bool) (h : 
   pub its_clock : IsClock w.clock ((clocks_now limits.epochs h).thread t)
   its_clock = (s.watchers t).clock going.present
 
-  pub by_it : IsBy t m.item
-  by_it = subst (IsBy t) (sym made) refl
-
-  pub at_item : items later (length h) ≡ Does t e
-  at_item = item-seam h m ∙ made
-
-  pub clocks_event : clocks_now limits.epochs later ≡ event_clocks limits.epochs (labels_now limits.epochs h) (clocks_now limits.epochs h) t e
-  clocks_event = clocks_now-push limits.epochs h m ∙ ap (next_clocks limits.epochs (labels_now limits.epochs h) (clocks_now limits.epochs h)) made
-
-  pub labels_event : labels_now limits.epochs later ≡ event_labels limits.epochs (labels_now limits.epochs h) t e
-  labels_event = labels_now-push limits.epochs h m ∙ ap (next_labels limits.epochs (labels_now limits.epochs h)) made
-
-  -- no attachment
-  fits_item : (item : Item) → item ≡ Does t e → AttachesWithin limits.slots item
-  fits_item (Does u f) same = tt
-  fits_item _ same = absurd (cc)
-
-  pub fits : AttachesWithin limits.slots m.item
-  fits = fits_item m.item made
-
-  -- ---- the desk and the slots
-
-  pub desk_there : IsDeskAt limits.epochs limits.slots (items later) (length h) x.desk
-  desk_there = desk_before limits.epochs limits.slots h m x.desk s.desk
-
-  pub desk_stays : (e ≡ events.End → ⊥) → ((child : ℕ) → e ≡ events.Create child → ⊥) → IsDeskAt limits.epochs limits.slots (items later) (suc (length h)) x.desk
-  desk_stays no_end no_create = at_event limits.epochs limits.slots (items later) (length h) x.desk t e desk_there at_item no_end no_create
-
-  same_slot : (o : Option ℕ) → raises e ≡ 0 → is_end e ≡ false → slot_after limits.epochs (labels_now limits.epochs h).epoch o e ≡ o
-  same_slot None no_raise no_last = refl
-  same_slot (Some r) no_raise no_last = rw (no_last, eq-eqb (raises e) 0 no_raise) refl
-
-  slots_stay : raises e ≡ 0 → is_end e ≡ false → (u : ℕ) → (labels_now limits.epochs later).slot_of u ≡ (labels_now limits.epochs h).slot_of u
-  slots_stay no_raise no_last u = ap (λ (l : Labels). l.slot_of u) labels_event ∙ go (u == t) refl
-    where
-      go : (b : Bool) → u == t ≡ b → cond b (slot_after limits.epochs (labels_now limits.epochs h).epoch ((labels_now limits.epochs h).slot_of t) e) ((labels_now limits.epochs h).slot_of u) ≡ (labels_now limits.epochs h).slot_of u
-      go true q = same_slot ((labels_now limits.epochs h).slot_of t) no_raise no_last ∙ ap (labels_now limits.epochs h).slot_of (sym (eqb-true u t q))
-      go false q = refl
-
-  pub settled_stays : raises e ≡ 0 → is_end e ≡ false → AreSettled leaving (labels_now limits.epochs later) x.desk
-  settled_stays no_raise no_last sid a owner = elim (s.settled sid a owner) [ inl leaves ↦ inl leaves | inr held ↦ inr (slots_stay no_raise no_last a.tid ∙ held) ]
-
-  -- ---- objects of other places
-
-  elsewhere : (k : ℕ) (f : Event) → IsAtKeeper keeper k f → (j : ℕ) → j ≢ k → IsElsewhere (is_kept_at keeper j) f
-  elsewhere k (events.Release addr part replaces) at j ne = ne_eqb (keeper addr) j (λ q. ne (sym q ∙ sym at))
-  elsewhere k (events.Destroy addr) at j ne = ne_eqb (keeper addr) j (λ q. ne (sym q ∙ sym at))
-  elsewhere k (events.Clear addr) at j ne = ne_eqb (keeper addr) j (λ q. ne (sym q ∙ sym at))
-  elsewhere k _ at j ne = tt
-
-  pub keeps_else : (k : ℕ) → IsAtKeeper keeper k e → (j : ℕ) → j ≢ k → KeepsChannels (is_kept_at keeper j) (era_now limits.epochs h) (clocks_now limits.epochs later) (x.objects j)
-  keeps_else k at j ne =
-      subst (λ (c : Clocks). KeepsChannels (is_kept_at keeper j) (era_now limits.epochs h) c (x.objects j)) (sym clocks_event)
-      (keeps-elsewhere limits.epochs (labels_now limits.epochs h) (is_kept_at keeper j) (era_now limits.epochs h) t e (clocks_now limits.epochs h) (x.objects j) (elsewhere k e at j ne) (s.objects j))
-
   -- ---- what the thread knows after the event
 
   thread_event : (r : ℕ) → (clocks_now limits.epochs later).thread t r ≡ max ((clocks_now limits.epochs h).thread t r) (clock_at (clocks_now limits.epochs h) (taken_from t e) r) + raised limits.epochs (labels_now limits.epochs h) t e r
-  thread_event r = ap (λ (k : Clocks). k.thread t r) clocks_event ∙ own (t == t) (eq-eqb t t refl)
+  thread_event r = ap (λ (k : Clocks). k.thread t r) (clocks_event limits keeper leaving h m x t e s made) ∙ own (t == t) (eq-eqb t t refl)
     where
       own : (b : Bool) → b ≡ true → cond b (max ((clocks_now limits.epochs h).thread t r) (clock_at (clocks_now limits.epochs h) (taken_from t e) r) + raised limits.epochs (labels_now limits.epochs h) t e r) ((clocks_now limits.epochs h).thread t r) ≡ max ((clocks_now limits.epochs h).thread t r) (clock_at (clocks_now limits.epochs h) (taken_from t e) r) + raised limits.epochs (labels_now limits.epochs h) t e r
       own true q = refl
@@ -139,12 +144,9 @@ module _ (limits : Limits) (keeper : ℕ → ℕ) (leaving : ℕ → Bool) (h : 
 
   -- beyond the slots nothing is known
   beyond : (r : ℕ) → limits.slots ≤ r → (clocks_now limits.epochs later).thread t r ≡ 0
-  beyond r l = (within_push limits.epochs limits.slots h m s.within fits).thread t r l
+  beyond r l = (within_push limits.epochs limits.slots h m s.within (fits limits keeper leaving h m x t e s made)).thread t r l
 
   -- ---- the watcher
-
-  pub still_watcher : raises e ≡ 0 → is_end e ≡ false → taken_from t e ≡ None → IsWatcherAt limits later t (noted w e)
-  still_watcher no_raise no_last alone = still limits h m t w (s.watchers t) e made no_raise no_last alone
 
   taking_watcher : (clock : List ℕ) → raises e ≡ 0 → is_end e ≡ false → length clock ≡ limits.slots → IsClock clock ((clocks_now limits.epochs later).thread t) → noted (with_clock w clock) e ≡ with_clock w clock → IsWatcherAt limits later t (with_clock w clock)
   taking_watcher clock no_raise no_last long known same = subst (IsWatcherAt limits later t) same (taking limits h m t w (s.watchers t) e clock made no_raise no_last going.present long known)
@@ -180,7 +182,7 @@ module _ (limits : Limits) (keeper : ℕ → ℕ) (leaving : ℕ → Bool) (h : 
           taken (rw e_is refl) r
           ∙ (ap (λ (f : Event). max ((clocks_now limits.epochs h).thread t r) (clock_at (clocks_now limits.epochs h) (taken_from t f) r)) e_is
           ∙ (ap (λ (c : Clocks). max ((clocks_now limits.epochs h).thread t r) (c.spot (Of (Ended of)) r)) (sym (clocks_before limits.epochs h m))
-          ∙ clock_joined limits.epochs limits.slots (items later) (length h) x.desk of w.clock ((clocks_now limits.epochs h).thread t) desk_there done (s.watchers t).slots tells_now r below))
+          ∙ clock_joined limits.epochs limits.slots (items later) (length h) x.desk of w.clock ((clocks_now limits.epochs h).thread t) (desk_there limits keeper leaving h m x t e s made) done (s.watchers t).slots tells_now r below))
 
   -- it takes in what was released
   pub acquired_watcher : (k addr : ℕ) (part : Part) → k ≡ keeper addr → e ≡ events.Acquire addr part → IsWatcherAt limits later t (with_clock w (joined w.clock (clock_in (x.objects k) w.era addr part)))
@@ -200,4 +202,4 @@ module _ (limits : Limits) (keeper : ℕ → ℕ) (leaving : ℕ → Bool) (h : 
       known : IsClock (joined w.clock (clock_in (x.objects k) era addr part)) ((clocks_now limits.epochs later).thread t)
       known r =
           acquired limits.epochs (labels_now limits.epochs h) (is_kept_at keeper k) era t addr part (clocks_now limits.epochs h) (x.objects k) w.clock (s.objects k) (eq-eqb (keeper addr) k (sym at)) as_long its_clock r
-          ∙ ap (λ (c : Clocks). c.thread t r) (sym (clocks_event ∙ ap (event_clocks limits.epochs (labels_now limits.epochs h) (clocks_now limits.epochs h) t) e_is))
+          ∙ ap (λ (c : Clocks). c.thread t r) (sym ((clocks_event limits keeper leaving h m x t e s made) ∙ ap (event_clocks limits.epochs (labels_now limits.epochs h) (clocks_now limits.epochs h) t) e_is))

@@ -96,10 +96,7 @@ module _ (limits : Limits) (keeper : ℕ → ℕ) (leaving : ℕ → Bool) (h : 
       (subst (λ (l : Labels). AreSettled leaving l x.desk) (sym (labels_note Nothing made)) s.settled))
 
   -- thread t leaves the slot that it spent
-  module _ (l : Label) (made : m.item ≡ Notes t (Leave l)) (holds : Holds x.desk t l) (present : w.era ≡ era_now limits.epochs h) (lost : w.label ≡ None) where
-    no_slot_now : (labels_now limits.epochs h).slot_of t ≡ None
-    no_slot_now = slotless limits.epochs h t (sym ((s.watchers t).label present) ∙ lost)
-
+  module _ (l : Label) (made : m.item ≡ Notes t (Leave l)) (holds : Holds x.desk t l) (no_slot_now : (labels_now limits.epochs h).slot_of t ≡ None) where
     left_is : desks.after_detach x.desk t ≡ record x.desk { slots = slice_set x.desk.slots l.sid (desks.spent_slot (slot_of x.desk l.sid)) }
     left_is = rw holds.held refl
 

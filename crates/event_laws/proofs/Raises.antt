@@ -45,7 +45,7 @@ module _ (limits : Limits) (keeper : ℕ → ℕ) (leaving : ℕ → Bool) (h : 
   its_slot = label_parts limits.epochs (items h) (length h) t going.label (sym (its_label limits keeper leaving h m x t e s going made) ∙ going.labelled)
 
   other_slot : (u : ℕ) → u ≢ t → (labels_now limits.epochs later).slot_of u ≡ (labels_now limits.epochs h).slot_of u
-  other_slot u other = ap (λ (l : Labels). l.slot_of u) (labels_event limits keeper leaving h m x t e s going made) ∙ rw (ne_eqb u t other) refl
+  other_slot u other = ap (λ (l : Labels). l.slot_of u) (labels_event limits keeper leaving h m x t e s made) ∙ rw (ne_eqb u t other) refl
 
   tells_there : Tells limits.slots w.clock ((clocks limits.epochs (items later) (length h)).thread t)
   tells_there r l = ap (λ (k : Clocks). k.thread t r) (clocks_before limits.epochs h m) ∙ tells_now limits keeper leaving h m x t e s going made r l
@@ -87,7 +87,7 @@ module _ (limits : Limits) (keeper : ℕ → ℕ) (leaving : ℕ → Bool) (h : 
 
     kept_slot : going.label.epoch < limits.epochs → (labels_now limits.epochs later).slot_of t ≡ Some going.label.sid
     kept_slot below =
-        ap (λ (l : Labels). l.slot_of t) (labels_event limits keeper leaving h m x t e s going made)
+        ap (λ (l : Labels). l.slot_of t) (labels_event limits keeper leaving h m x t e s made)
         ∙ rw (eq-eqb t t refl, its_slot.0, not_end, ne_eqb (raises e) 0 (λ q. let z = raising in omega arith), its_slot.1, lt-ltb going.label.epoch limits.epochs below) refl
 
     -- the thread that lost its label is to leave
@@ -128,8 +128,8 @@ module _ (limits : Limits) (keeper : ℕ → ℕ) (leaving : ℕ → Bool) (h : 
   pub created_desk : (child : ℕ) → e ≡ events.Create child → desks.created x.desk ≡ Thread child → IsDeskAt limits.epochs limits.slots (items later) (Rattle.std.proofs.Common.suc (length h)) (desks.after_create x.desk w.clock)
   created_desk child e_is created =
       let c = creates x.desk child created in
-      let at : items later (length h) ≡ Does t (events.Create x.desk.made) = at_item limits keeper leaving h m x t e s going made ∙ (ap (Does t) e_is ∙ ap (λ (n : ℕ). Does t (events.Create n)) c.next) in
-      at_create limits.epochs limits.slots (items later) (length h) x.desk t w.clock (desk_there limits keeper leaving h m x t e s going made) at (created ∙ ap Thread c.next) (s.watchers t).slots tells_there
+      let at : items later (length h) ≡ Does t (events.Create x.desk.made) = at_item limits keeper leaving h m x t e s made ∙ (ap (Does t) e_is ∙ ap (λ (n : ℕ). Does t (events.Create n)) c.next) in
+      at_create limits.epochs limits.slots (items later) (length h) x.desk t w.clock (desk_there limits keeper leaving h m x t e s made) at (created ∙ ap Thread c.next) (s.watchers t).slots tells_there
 
   pub created_owners : (sid : ℕ) → (slot_of (desks.after_create x.desk w.clock) sid).owner ≡ (slot_of x.desk sid).owner
   created_owners sid = go (desks.is_full x.desk)
@@ -153,7 +153,7 @@ module _ (limits : Limits) (keeper : ℕ → ℕ) (leaving : ℕ → Bool) (h : 
         let there : (labels limits.epochs (items later) (length h)).epoch going.label.sid ≡ going.label.epoch = ap (λ (y : Labels). y.epoch going.label.sid) l ∙ its_slot.1 in
         let epoch : slice_index w.clock going.label.sid ≡ (labels limits.epochs (items later) (length h)).epoch going.label.sid = own ∙ sym there in
         let below : (labels limits.epochs (items later) (length h)).epoch going.label.sid ≤ limits.epochs = omega arith in
-        at_end limits.epochs limits.slots (items later) (length h) x.desk t going.label.sid w.clock (desk_there limits keeper leaving h m x t e s going made) (at_item limits keeper leaving h m x t e s going made ∙ ap (Does t) ending) alive holds epoch below (s.watchers t).slots tells_there
+        at_end limits.epochs limits.slots (items later) (length h) x.desk t going.label.sid w.clock (desk_there limits keeper leaving h m x t e s made) (at_item limits keeper leaving h m x t e s made ∙ ap (Does t) ending) alive holds epoch below (s.watchers t).slots tells_there
 
     pub ended_watcher : IsWatcherAt limits later t (unlabelled w)
     ended_watcher = ends limits h m t w (s.watchers t) (made ∙ ap (Does t) ending)

@@ -13,6 +13,7 @@
 
 ghost use Rattle.std.specs.Prelude.{◌≡◌, ℕ, Bool, false, List, [], ◌∷◌, ◌++◌, Option, None};
 ghost use Rattle.run_record.specs.declared.event.Event.{Event};
+ghost use Rattle.run_record.specs.declared.event.Event.TheVariants.{Put};
 ghost use Rattle.run_record.specs.declared.entry.Label.{Label};
 ghost use Rattle.run_record.specs.declared.entry.DeskNote.TheVariants.{Nothing, Attach, Leave};
 ghost use Rattle.run_record.specs.declared.limits.Limits.{Limits};
@@ -23,9 +24,12 @@ ghost use Rattle.event_laws.specs.Standing.{Kept, Stands};
 ghost use Rattle.event_laws.specs.Heard.{IsGoing, IsGiven, IfBegin, IsAtKeeper, IsGranted, ObjectsAfter, kept_after, leaving_after, Attaches, kept_attached, Holds, kept_left, leaving_without, kept_in_era};
 
 /// A thread with a label makes an event: its watcher goes on, and what is kept at the place of the event. `keeper` gives the
-/// place of an address, and `leaving` who is still to leave a slot that it spent.
+/// place of an address, and `leaving` who is still to leave a slot that it spent. A thread without a label may put bytes on the
+/// output, and nothing changes.
 pub fn event_law()
-    ensures { (limits : Limits) (keeper : ℕ → ℕ) (leaving : ℕ → Bool) (h : List Moment) (m : Moment) (x : Kept) (k t : ℕ) (given : Option (List ℕ)) (e : Event) (set : SyncObjects) →
+    ensures put { (limits : Limits) (keeper : ℕ → ℕ) (leaving : ℕ → Bool) (h : List Moment) (m : Moment) (x : Kept) (t value count : ℕ) →
+        Stands limits keeper leaving h x → m.item ≡ Does t (Put value count) → Stands limits keeper leaving (h ++ m ∷ []) x }
+    ensures event { (limits : Limits) (keeper : ℕ → ℕ) (leaving : ℕ → Bool) (h : List Moment) (m : Moment) (x : Kept) (k t : ℕ) (given : Option (List ℕ)) (e : Event) (set : SyncObjects) →
         Stands limits keeper leaving h x → IsGoing limits h (x.watchers t) → m.item ≡ Does t e → IfBegin e (IsGiven limits h t given) → IsAtKeeper keeper k e → IsGranted x.desk t e →
         ObjectsAfter (x.watchers t).era (x.watchers t).clock e (x.objects k) set →
         Stands limits keeper (leaving_after leaving t e (x.watchers t)) (h ++ m ∷ []) (kept_after x k t given e set) }

@@ -18,7 +18,8 @@ use Rattle.race_core.specs.Watched.{Watched}
 use Rattle.race_core.specs.History.{IsWatcherAt, IsWithin, era_now}
 use Rattle.report_laws.specs.Awaited.{Begin}
 use Rattle.detector.specs.Detected.{Detected, watcher_of}
-use Rattle.detector.specs.Stands.{Stands, AreSettled, IsShadow}
+use Rattle.event_laws.specs.Standing.{AreSettled}
+use Rattle.detector.specs.Stands.{Stands, IsShadow, is_leaving}
 
 pub same_length : (h k : List Moment) → AreAlike h k → length h ≡ length k
 same_length [] [] a = refl
@@ -85,7 +86,7 @@ module _ (limits : Limits) (h k : List Moment) (a : AreAlike h k) where
     objects = subst (λ (c : Clocks). KeepsChannels everywhere d.era c d.objects) clocks_are s.objects;
     object_slots = s.object_slots;
     watchers = λ t. watcher_alike t (watcher_of d t) (s.watchers t);
-    settled = subst (λ (l : Labels). AreSettled leaving l d.desk) labels_are s.settled;
+    settled = subst (λ (l : Labels). AreSettled (is_leaving leaving) l d.desk) labels_are s.settled;
     as_many = s.as_many;
     within = subst (λ (l : Labels). IsWithin limits.slots l (clocks_now limits.epochs k)) labels_are (subst (λ (c : Clocks). IsWithin limits.slots (labels_now limits.epochs h) c) clocks_are s.within);
     shadow = shadow_alike granules limits.slots d.shadow s.shadow;

@@ -208,7 +208,7 @@ module _ (file : List ℕ) (limits : Limits) (from round : ℕ) (entries : List 
   begins = begin_is entries (turn_of s no_part) refl ∙ ap (λ (ms : List Moment). ms ++ m ∷ []) (before_without entries (turn_of s no_part) refl)
 
   stands_now : Stands (granules_of file) limits from None (so_far s no_part) d
-  stands_now = subst (λ (ms : List Moment). Stands (granules_of file) limits from None ms d) (sym begins) (stands_nothing (granules_of file) limits from (first s) m d t None resumes refl refl watched_still)
+  stands_now = subst (λ (ms : List Moment). Stands (granules_of file) limits from None ms d) (sym begins) (stands_nothing (granules_of file) limits from (first s) m d t None resumes refl refl)
 
   present : (watcher_of d t).era ≡ d.era
   present = ap (λ (x : Watched). x.era) (get_or-set_same w.detector.watchers t (in_era (watcher_of w.detector t) w.detector.era) (new_watched t w.detector.limits) watched) ∙ era_resumed (watcher_of w.detector t) w.detector.era

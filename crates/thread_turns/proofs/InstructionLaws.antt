@@ -214,7 +214,7 @@ module _ (s : Setting) (p : Part) (v : WatchedMachine) (going : IsGoingOn s 1 p 
         (record {
           stands = subst (λ (o : Option Label). Stands (granules_of s.file) s.limits s.from (option_map (λ (l : Label). s.tid) o) (so_far s q) v.detector) (sym q_spent)
               (subst (λ (ms : List Moment). Stands (granules_of s.file) s.limits s.from None ms v.detector) (sym later)
-              (stands_puts (granules_of s.file) s.limits s.from None (so_far s p) v.detector (length (entries_before s.entries (turn_of s p))) (entry_of s q) 0 st.events (subst (λ (o : Option Label). Stands (granules_of s.file) s.limits s.from (option_map (λ (l : Label). s.tid) o) (so_far s p) v.detector) quiet.unspent going.hearing.stands) going.hearing.watched q_checks (same_puts st.events puts)));
+              (stands_puts (granules_of s.file) s.limits s.from None (so_far s p) v.detector (length (entries_before s.entries (turn_of s p))) (entry_of s q) 0 st.events (subst (λ (o : Option Label). Stands (granules_of s.file) s.limits s.from (option_map (λ (l : Label). s.tid) o) (so_far s p) v.detector) quiet.unspent going.hearing.stands) q_checks (same_puts st.events puts)));
           era = going.hearing.era;
           watched = going.hearing.watched;
           agrees = subst (λ (x : Threads). Agrees s.limits.harts x v.detector.desk) (sym threads_same) going.hearing.agrees;

@@ -222,7 +222,7 @@ module _ (s : Setting) (p : Part) (w : WatchedMachine) (on : IsGoingOn s 0 p w) 
         stands_taken = stands_take granules s.limits s.from h m r t l rest roomy refl refl resting front epoch era there.within (let a = below l.sid rest front in omega arith)
 
         stands_begun : Stands granules s.limits s.from None ((h ++ m ∷ []) ++ b ∷ []) n
-        stands_begun = stands_nothing granules s.limits s.from (h ++ m ∷ []) b n t None stands_taken refl refl long_after
+        stands_begun = stands_nothing granules s.limits s.from (h ++ m ∷ []) b n t None stands_taken refl refl
 
         heard : Hearing s (threads_in w.machine) q n
         heard = record {

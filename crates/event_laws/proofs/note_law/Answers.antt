@@ -1,4 +1,5 @@
-use Rattle.event_laws.proofs.Notes.{nothing_stands, attached_stands, left_stands}
+use Rattle.std.proofs.Common.{sym, ◌∙◌}
+use Rattle.event_laws.proofs.Notes.{slotless, nothing_stands, attached_stands, left_stands}
 use Rattle.event_laws.proofs.note_law.Goals as goal
 
 pub returns-clause-nothing : goal.returns-clause-nothing
@@ -8,4 +9,4 @@ pub returns-clause-attach : goal.returns-clause-attach
 returns-clause-attach c limits keeper leaving h m x t label s made present a = attached_stands limits keeper leaving h m x t s label made a present
 
 pub returns-clause-leave : goal.returns-clause-leave
-returns-clause-leave c limits keeper leaving h m x t label s made present lost holds = left_stands limits keeper leaving h m x t s label made holds present lost
+returns-clause-leave c limits keeper leaving h m x t label s made present lost holds = left_stands limits keeper leaving h m x t s label made holds (slotless limits.epochs h t (sym ((s.watchers t).label present) ∙ lost))
