@@ -41,7 +41,7 @@ use Rattle.detector.proofs.CheckLaws.{StoresWithin, cell_below, shadow_start, sh
 use Rattle.detector.proofs.PartLaws.{NoneOn, IsInjective, part_of_block, parts_apart, zip_parts}
 use Rattle.detector.proofs.Laws.{side_told}
 use Rattle.detector.proofs.Placed.{watcher_but, stands_event}
-use Rattle.event_laws.proofs.Longer.{era_stays, no_era}
+use Rattle.thread_events.proofs.Longer.{era_stays, no_era}
 use Rattle.run_laws.specs.Moments.{IsBy}
 use Rattle.std.proofs.Math.ListN.{length-set}
 use Rattle.run_record.specs.declared.report.Side.{Side}

@@ -21,9 +21,9 @@ use Rattle.turn_laws.specs.Going.{spent_by}
 use Rattle.turn_orders.specs.Machine.{but}
 use Rattle.turn_orders.proofs.Functions.{but_same}
 use Rattle.report_laws.proofs.CollectedLaw.{push_unchecked}
-use Rattle.event_laws.specs.Heard.{IsGranted, ObjectsAfter, raised_or_lost, raised_or_lost_to, lost_label, lost_label_to, watcher_after, desk_after}
-use Rattle.event_laws.proofs.Longer.{era_stays, no_era}
-use Rattle.event_laws.proofs.Raises.{own_entry, either_way, its_slot}
+use Rattle.thread_events.specs.Heard.{IsGranted, ObjectsAfter, raised_or_lost, raised_or_lost_to, lost_label, lost_label_to, watcher_after, desk_after}
+use Rattle.thread_events.proofs.Longer.{era_stays, no_era}
+use Rattle.thread_events.proofs.Raises.{own_entry, either_way, its_slot}
 use Rattle.detector.specs.Detected.{Detected, watcher_of, with_watcher, after_begin, after_join, after_acquire, after_create, after_end, after_note, Releases, Destroys, Clears, IsGoing, IsLeaving}
 use Rattle.detector.specs.Stands.{Stands, is_leaving, awaited}
 use Rattle.detector.proofs.Standing.{shadow_stays}

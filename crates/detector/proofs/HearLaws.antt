@@ -32,10 +32,10 @@ use Rattle.detector.specs.Checked.{raced_of, waits_on}
 use Rattle.detector.specs.Checking.{Checking, IsStanding, ChecksAll}
 use Rattle.detector.specs.Stands.{Stands}
 use Rattle.slot_desk.specs.Desks.{DeskContents}
-use Rattle.event_laws.specs.Heard.{desk_after, lost_label}
+use Rattle.thread_events.specs.Heard.{desk_after, lost_label}
 use Rattle.detector.specs.Hears.{Hears, CanHear}
-use Rattle.event_laws.proofs.Raises.{own_entry}
-use Rattle.event_laws.specs.Heard.{IsGranted, ObjectsAfter, watcher_after}
+use Rattle.thread_events.proofs.Raises.{own_entry}
+use Rattle.thread_events.specs.Heard.{IsGranted, ObjectsAfter, watcher_after}
 use Rattle.detector.proofs.Events.{stands_begin, stands_join, stands_acquire, stands_end, stands_destroy, stands_clear, stands_note, stands_release, stands_create, leaves_release, leaves_create, spent_is}
 use Rattle.detector.proofs.AccessLaws.{event_of, waits_for, after_access, stands_access, right_after}
 

@@ -19,12 +19,12 @@ use Rattle.sync_slab.specs.Channels.{everywhere}
 use Rattle.race_core.specs.Watched.{Watched, in_era, with_room}
 use Rattle.race_core.specs.History.{IsWatcherAt, era_now}
 use Rattle.report_laws.proofs.CollectedLaw.{push_unchecked}
-use Rattle.event_laws.specs.Standing as laws
-use Rattle.event_laws.specs.Standing.{Kept}
-use Rattle.event_laws.specs.Heard.{kept_attached, kept_left, kept_in_era, leaving_without}
-use Rattle.event_laws.proofs.Longer.{era_stays, no_era}
-use Rattle.event_laws.proofs.All.{put_stands}
-use Rattle.event_laws.proofs.Notes.{slotless, nothing_stands, left_stands, attached_stands, era_stands}
+use Rattle.thread_events.specs.Standing as laws
+use Rattle.thread_events.specs.Standing.{Kept}
+use Rattle.thread_events.specs.Heard.{kept_attached, kept_left, kept_in_era, leaving_without}
+use Rattle.thread_events.proofs.Longer.{era_stays, no_era}
+use Rattle.thread_events.proofs.All.{put_stands}
+use Rattle.thread_events.proofs.Notes.{slotless, nothing_stands, left_stands, attached_stands, era_stands}
 use Rattle.detector.specs.Detected.{Detected, watcher_of, after_leave, after_take, after_era, after_resume, after_room, IsLeaving, IsResting}
 use Rattle.detector.specs.Stands.{Stands, is_leaving, awaited}
 use Rattle.detector.proofs.Laws.{enter_watcher, room_watcher}

@@ -23,10 +23,10 @@ use Rattle.race_core.specs.History.{IsWatcherAt, era_now}
 use Rattle.turn_orders.specs.Machine.{but}
 use Rattle.turn_orders.proofs.Functions.{but_here, but_else}
 use Rattle.report_laws.specs.Awaited.{Collects}
-use Rattle.event_laws.specs.Standing as laws
-use Rattle.event_laws.specs.Standing.{Kept, is_kept_at}
-use Rattle.event_laws.specs.Heard.{IsGoing as Going, IsGiven, IfBegin, IsAtKeeper, IsGranted, ObjectsAfter, watcher_after, desk_after, kept_after, leaving_after, lost_label}
-use Rattle.event_laws.proofs.All.{event_stands}
+use Rattle.thread_events.specs.Standing as laws
+use Rattle.thread_events.specs.Standing.{Kept, is_kept_at}
+use Rattle.thread_events.specs.Heard.{IsGoing as Going, IsGiven, IfBegin, IsAtKeeper, IsGranted, ObjectsAfter, watcher_after, desk_after, kept_after, leaving_after, lost_label}
+use Rattle.thread_events.proofs.All.{event_stands}
 use Rattle.detector.specs.Detected.{Detected, watcher_of, with_watcher, IsGoing}
 use Rattle.detector.specs.Stands.{Stands, IsShadow, is_leaving, awaited}
 

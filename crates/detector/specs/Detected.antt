@@ -11,7 +11,7 @@ use Rattle.vector_clock.specs.Clocks.{joined}
 use Rattle.sync_slab.specs.Objects.{SyncObject, SyncObjects, AreObjects, clock_in, Puts, Ends, Removes}
 use Rattle.race_core.specs.Watched.{Watched, new_watched, with_clock, unlabelled, labelled, raised, next_label, noted, in_era, with_room}
 use Rattle.race_core.specs.declared.watcher.Candidate.{Candidate}
-use Rattle.event_laws.specs.Heard.{raised_or_lost, released}
+use Rattle.thread_events.specs.Heard.{raised_or_lost, released}
 
 -- The limits of the run; the present era; the desk; the synchronisation objects; one watcher a thread, by its number;
 -- the shadow words, four a granule; and the accesses of the round that have a candidate.

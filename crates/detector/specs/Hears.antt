@@ -14,7 +14,7 @@ use Rattle.slot_desk.specs.Desks.{DeskContents, thread_of}
 use Rattle.slot_desk.specs.Steps as desks
 use Rattle.race_core.specs.Watched.{CanBeNoted}
 use Rattle.turn_laws.specs.Going.{spent_by, AreRightNow}
-use Rattle.event_laws.specs.Heard.{desk_after}
+use Rattle.thread_events.specs.Heard.{desk_after}
 use Rattle.detector.specs.Detected.{Detected, watcher_of, IsLeaving}
 use Rattle.detector.specs.Stands.{Stands}
 

@@ -8,7 +8,7 @@ use Rattle.slot_desk.specs.History.{IsDeskAt}
 use Rattle.sync_slab.specs.Channels.{KeepsChannels, everywhere}
 use Rattle.race_core.specs.History.{IsWatcherAt, IsWithin, era_now}
 use Rattle.race_core.specs.declared.watcher.Candidate.{Candidate}
-use Rattle.event_laws.specs.Standing.{AreSettled}
+use Rattle.thread_events.specs.Standing.{AreSettled}
 use Rattle.report_laws.specs.Awaited.{Awaited, Collects}
 use Rattle.detector.specs.Detected.{Detected, watcher_of, shadow_at}
 

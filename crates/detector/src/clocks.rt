@@ -4,7 +4,7 @@ ghost use Rattle.run_record.specs.declared.limits.Limits.{Limits};
 ghost use Rattle.slot_desk.specs.Desks.{thread_of, held_of};
 ghost use Rattle.slot_desk.specs.Steps as desks;
 ghost use Rattle.race_core.specs.Watched.{AreWatcherLimits};
-ghost use Rattle.event_laws.specs.Heard.{raised_or_lost, lost_label};
+ghost use Rattle.thread_events.specs.Heard.{raised_or_lost, lost_label};
 ghost use Rattle.detector.specs.Detected.{watcher_of, with_watcher, after_begin, after_create, after_end, after_join, after_acquire, Releases, Destroys, Clears, MayRaise};
 
 use crate::Detector;

@@ -18,7 +18,7 @@ use Rattle.race_core.specs.Watched.{Watched}
 use Rattle.race_core.specs.History.{IsWatcherAt, IsWithin, era_now}
 use Rattle.report_laws.specs.Awaited.{Begin}
 use Rattle.detector.specs.Detected.{Detected, watcher_of}
-use Rattle.event_laws.specs.Standing.{AreSettled}
+use Rattle.thread_events.specs.Standing.{AreSettled}
 use Rattle.detector.specs.Stands.{Stands, IsShadow, is_leaving}
 
 pub same_length : (h k : List Moment) → AreAlike h k → length h ≡ length k

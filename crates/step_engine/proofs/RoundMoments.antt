@@ -10,7 +10,7 @@ use Rattle.run_record.specs.declared.entry.Entry.{Entry}
 use Rattle.run_laws.specs.Moments.{Notes, NewEra, Moment, moments, moments_from, moments_in, last_era, era_moments, entry_moments, event_moment}
 use Rattle.run_laws.proofs.MomentsLaw.{era_after, moments_from-append}
 use Rattle.race_core.specs.History.{era_now}
-use Rattle.event_laws.proofs.Longer.{era_stays}
+use Rattle.thread_events.proofs.Longer.{era_stays}
 
 -- the moment begins no era
 abbrev pub IsInEra : Moment → Type 0

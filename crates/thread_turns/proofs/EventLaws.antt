@@ -36,11 +36,11 @@ use Rattle.machine_laws.proofs.ThreadLaw.{made_of, one_kept, depth_own, depth_ot
 use Rattle.machine_laws.proofs.DeskLaw.{create_answer, create_after, end_after, join_done, stays}
 use Rattle.detector.specs.Detected.{Detected, watcher_of, after_room, IsGoing}
 use Rattle.detector.specs.Checking.{IsStanding}
-use Rattle.event_laws.specs.Heard.{desk_after}
+use Rattle.thread_events.specs.Heard.{desk_after}
 use Rattle.detector.specs.Hears.{CanHear, Hears}
 use Rattle.detector.specs.Stands.{Stands}
 use Rattle.race_core.specs.History.{era_now}
-use Rattle.event_laws.proofs.Longer.{era_stays}
+use Rattle.thread_events.proofs.Longer.{era_stays}
 use Rattle.detector.proofs.NoteLaws.{stands_room}
 use Rattle.thread_turns.specs.declared.part.Part.{Part}
 use Rattle.thread_turns.specs.Going.{Setting, turn_of, so_far, entry_of, HasSlot, Hearing}

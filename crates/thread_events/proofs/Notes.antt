@@ -31,11 +31,11 @@ use Rattle.race_core.proofs.EventLaws.{attaches, begins}
 use Rattle.race_core.proofs.BeyondLaws.{within_push}
 use Rattle.turn_orders.specs.Machine.{but}
 use Rattle.turn_orders.proofs.Functions.{but_same}
-use Rattle.event_laws.specs.Standing.{Kept, is_kept_at, AreSettled, Stands}
-use Rattle.event_laws.specs.Heard.{Attaches, kept_attached, Holds, kept_left, leaving_without, kept_in_era}
-use Rattle.event_laws.proofs.Longer.{desk_before, desk_now, labels_before, clocks_before, item-seam, length-push, era_stays, no_era}
-use Rattle.event_laws.proofs.Threads.{thread_stands}
-use Rattle.event_laws.proofs.Events.{whole_clock}
+use Rattle.thread_events.specs.Standing.{Kept, is_kept_at, AreSettled, Stands}
+use Rattle.thread_events.specs.Heard.{Attaches, kept_attached, Holds, kept_left, leaving_without, kept_in_era}
+use Rattle.thread_events.proofs.Longer.{desk_before, desk_now, labels_before, clocks_before, item-seam, length-push, era_stays, no_era}
+use Rattle.thread_events.proofs.Threads.{thread_stands}
+use Rattle.thread_events.proofs.Events.{whole_clock}
 
 -- a thread without a label has no slot
 none_is : {X : Type 0} (f : ℕ → X) (o : Option ℕ) → option_map f o ≡ None → o ≡ None

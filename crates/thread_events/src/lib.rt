@@ -1,4 +1,4 @@
-//! What each event makes of what a detector keeps.
+//! One event of a thread: what it makes of what a detector keeps.
 //!
 //! A detector keeps the desk, synchronisation objects, and for each thread its watcher. The objects of an address stand at one
 //! place: a detector for one thread at a time has one place for all, and one that many threads share has a place for each stripe
@@ -20,8 +20,8 @@ ghost use Rattle.run_record.specs.declared.limits.Limits.{Limits};
 ghost use Rattle.run_laws.specs.Moments.{Does, Notes, NewEra, Moment};
 ghost use Rattle.sync_slab.specs.Objects.{SyncObjects};
 ghost use Rattle.race_core.specs.History.{era_now};
-ghost use Rattle.event_laws.specs.Standing.{Kept, Stands};
-ghost use Rattle.event_laws.specs.Heard.{IsGoing, IsGiven, IfBegin, IsAtKeeper, IsGranted, ObjectsAfter, kept_after, leaving_after, Attaches, kept_attached, Holds, kept_left, leaving_without, kept_in_era};
+ghost use Rattle.thread_events.specs.Standing.{Kept, Stands};
+ghost use Rattle.thread_events.specs.Heard.{IsGoing, IsGiven, IfBegin, IsAtKeeper, IsGranted, ObjectsAfter, kept_after, leaving_after, Attaches, kept_attached, Holds, kept_left, leaving_without, kept_in_era};
 
 /// A thread with a label makes an event: its watcher goes on, and what is kept at the place of the event. `keeper` gives the
 /// place of an address, and `leaving` who is still to leave a slot that it spent. A thread without a label may put bytes on the

@@ -13,8 +13,8 @@ use Rattle.race_core.proofs.StillLaws.{other}
 use Rattle.race_core.proofs.BeyondLaws.{within_push}
 use Rattle.turn_orders.specs.Machine.{but}
 use Rattle.turn_orders.proofs.Functions.{but_each}
-use Rattle.event_laws.specs.Standing.{Kept, is_kept_at, AreSettled, Stands}
-use Rattle.event_laws.proofs.Longer.{desk_now, era_stays, by_one, no_era}
+use Rattle.thread_events.specs.Standing.{Kept, is_kept_at, AreSettled, Stands}
+use Rattle.thread_events.proofs.Longer.{desk_now, era_stays, by_one, no_era}
 
 pub thread_stands :
     (limits : Limits) (keeper : ℕ → ℕ) (leaving after : ℕ → Bool) (h : List Moment) (m : Moment) (x : Kept) (t : ℕ) (desk : DeskContents) (objects : ℕ → SyncObjects) (w : Watched) →

@@ -20,7 +20,7 @@ use Rattle.sync_slab.specs.Objects.{SyncObject, SyncObjects, AreObjects, clock_i
 use Rattle.race_core.specs.Watched.{Watched, with_clock, unlabelled, labelled, raised, next_label, noted}
 use Rattle.race_core.specs.History.{era_now}
 use Rattle.turn_orders.specs.Machine.{but}
-use Rattle.event_laws.specs.Standing.{Kept}
+use Rattle.thread_events.specs.Standing.{Kept}
 
 -- ---- labels that rise or are lost
 

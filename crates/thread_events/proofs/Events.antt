@@ -26,9 +26,9 @@ use Rattle.race_core.specs.Watched.{Watched, with_clock, noted}
 use Rattle.race_core.specs.History.{IsWatcherAt, IsClock, AttachesWithin, era_now}
 use Rattle.race_core.proofs.EventLaws.{taking, still}
 use Rattle.race_core.proofs.BeyondLaws.{within_push}
-use Rattle.event_laws.specs.Standing.{Kept, is_kept_at, AreSettled, Stands}
-use Rattle.event_laws.specs.Heard.{IsGoing, IsGiven, IsAtKeeper, watcher_after}
-use Rattle.event_laws.proofs.Longer.{desk_before, item-seam, clocks_before}
+use Rattle.thread_events.specs.Standing.{Kept, is_kept_at, AreSettled, Stands}
+use Rattle.thread_events.specs.Heard.{IsGoing, IsGiven, IsAtKeeper, watcher_after}
+use Rattle.thread_events.proofs.Longer.{desk_before, item-seam, clocks_before}
 
 -- a clock of n slots that tells what is known of each of them is the whole clock, where nothing is known of others
 pub whole_clock : (n : ℕ) (clock : List ℕ) (known : ℕ → ℕ) → length clock ≡ n → ((r : ℕ) → r < n → known r ≡ slice_index clock r) → ((r : ℕ) → n ≤ r → known r ≡ 0) → IsClock clock known

@@ -17,11 +17,11 @@ use Rattle.race_core.specs.Watched.{Watched, noted}
 use Rattle.race_core.specs.History.{IsWatcherAt, era_now}
 use Rattle.turn_orders.specs.Machine.{but}
 use Rattle.turn_orders.proofs.Functions.{but_each, but_same}
-use Rattle.event_laws.specs.Standing.{Kept, is_kept_at, AreSettled, Stands}
-use Rattle.event_laws.specs.Heard.{IsGoing, IsGiven, IfBegin, IsAtKeeper, IsGranted, ObjectsAfter, released, watcher_after, desk_after, kept_after, leaving_after, lost_label}
-use Rattle.event_laws.proofs.Threads.{thread_stands}
-use Rattle.event_laws.proofs.Events.{its_clock, by_it, fits, clocks_event, desk_stays, settled_stays, keeps_else, still_watcher, begun_watcher, joined_watcher, acquired_watcher}
-use Rattle.event_laws.proofs.Raises.{raising_watcher, settled_raising, created_desk, created_owners, ended_desk, ended_watcher, settled_ended}
+use Rattle.thread_events.specs.Standing.{Kept, is_kept_at, AreSettled, Stands}
+use Rattle.thread_events.specs.Heard.{IsGoing, IsGiven, IfBegin, IsAtKeeper, IsGranted, ObjectsAfter, released, watcher_after, desk_after, kept_after, leaving_after, lost_label}
+use Rattle.thread_events.proofs.Threads.{thread_stands}
+use Rattle.thread_events.proofs.Events.{its_clock, by_it, fits, clocks_event, desk_stays, settled_stays, keeps_else, still_watcher, begun_watcher, joined_watcher, acquired_watcher}
+use Rattle.thread_events.proofs.Raises.{raising_watcher, settled_raising, created_desk, created_owners, ended_desk, ended_watcher, settled_ended}
 
 module _ (limits : Limits) (keeper : ℕ → ℕ) (leaving : ℕ → Bool) (h : List Moment) (m : Moment) (x : Kept) (k t : ℕ) (given : Option (List ℕ)) (set : SyncObjects) (s : Stands limits keeper leaving h x) (going : IsGoing limits h (x.watchers t)) where
   abbrev w : Watched

@@ -1,6 +1,6 @@
 use Rattle.std.proofs.Common.{sym, ◌∙◌}
-use Rattle.event_laws.proofs.Notes.{slotless, nothing_stands, attached_stands, left_stands}
-use Rattle.event_laws.proofs.note_law.Goals as goal
+use Rattle.thread_events.proofs.Notes.{slotless, nothing_stands, attached_stands, left_stands}
+use Rattle.thread_events.proofs.note_law.Goals as goal
 
 pub returns-clause-nothing : goal.returns-clause-nothing
 returns-clause-nothing c limits keeper leaving h m x t s made = nothing_stands limits keeper leaving h m x t s made

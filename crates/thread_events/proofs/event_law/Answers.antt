@@ -1,5 +1,5 @@
-use Rattle.event_laws.proofs.All.{event_stands, put_stands}
-use Rattle.event_laws.proofs.event_law.Goals as goal
+use Rattle.thread_events.proofs.All.{event_stands, put_stands}
+use Rattle.thread_events.proofs.event_law.Goals as goal
 
 pub returns-clause-put : goal.returns-clause-put
 returns-clause-put c limits keeper leaving h m x t value count s made = put_stands limits keeper leaving h m x t value count s made

@@ -23,10 +23,10 @@ use Rattle.race_core.specs.Watched.{Watched, noted, unlabelled, next_label, next
 use Rattle.race_core.specs.History.{IsWatcherAt, era_now}
 use Rattle.race_core.proofs.EventLaws.{rises, spent, ends}
 use Rattle.race_core.proofs.OwnLaws.{known_at}
-use Rattle.event_laws.specs.Standing.{Kept, AreSettled, Stands}
-use Rattle.event_laws.specs.Heard.{IsGoing, raised_or_lost, raised_or_lost_to, lost_label, lost_label_to, leaving_after}
-use Rattle.event_laws.proofs.Longer.{labels_before, clocks_before}
-use Rattle.event_laws.proofs.Events.{its_label, its_clock, at_item, labels_event, desk_there, tells_now}
+use Rattle.thread_events.specs.Standing.{Kept, AreSettled, Stands}
+use Rattle.thread_events.specs.Heard.{IsGoing, raised_or_lost, raised_or_lost_to, lost_label, lost_label_to, leaving_after}
+use Rattle.thread_events.proofs.Longer.{labels_before, clocks_before}
+use Rattle.thread_events.proofs.Events.{its_label, its_clock, at_item, labels_event, desk_there, tells_now}
 
 -- the thread's clock has the epoch of its label at the label's slot
 pub own_entry : (limits : Limits) (h : List Moment) (t : ℕ) (w : Watched) (label : Label) → IsWatcherAt limits h t w → w.era ≡ era_now limits.epochs h → w.label ≡ Some label → slice_index w.clock label.sid ≡ label.epoch
