@@ -1,6 +1,6 @@
 // The desk.
 ghost use Rattle.std.specs.Prelude.{◌≡◌, ◌↔◌, ◌<◌, ◌≤◌, length, true, IfOk, IfSome, IsSomeAnd, None, slice_index};
-ghost use Rattle.slot_desk.specs.Desks.{NoneIsFree, slot_of, thread_of, held_of, owner_at};
+ghost use Rattle.slot_desk.specs.Desks.{NoneIsFree, slot_of, thread_of, live_of, held_of, owner_at};
 ghost use Rattle.slot_desk.specs.Steps.{AreDeskLimits, new_desk, attached, after_attach, clock_after_attach, after_detach, joined_told, created, after_create, after_end, join_answer, clock_after_join, after_reset};
 
 use crate::queue::refill;
@@ -75,6 +75,13 @@ impl Desk {
             Some(thread) => thread.lives,
             None => false,
         }
+    }
+
+    /// How many threads live.
+    pub fn living(&self) -> u32
+        ensures { result ≡ live_of self.now }
+    {
+        self.live
     }
 
     /// The thread's slot, and the epoch of its attachment.
