@@ -215,5 +215,10 @@ fn begins_with_the_image(rt: HostRuntime) -> Result<(), Fail> {
     };
     assert_eq!(rt; first, (130, Some(0x0807_0605_0403_0201)));
     assert_eq!(rt; (closed.stripes.len(), closed.cells.len()), (64, 33_280));
+    let main = match &closed.desk {
+        Some(desk) => desk.machine.made.as_slice().first().copied(),
+        None => None,
+    };
+    assert!(rt; matches!(main, Some(thread) if thread.lives && thread.regs.pc() == 0x1_0000));
     Ok(())
 }
