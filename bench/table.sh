@@ -8,7 +8,8 @@ set -eu
 cd "$(dirname "$0")/.."
 work=$(mktemp -d)
 trap 'rm -rf "$work"' EXIT
-below="run_record run_laws vector_clock elf_image guest_memory slot_desk sync_slab shadow_word shared_table"
+below="run_record run_laws vector_clock elf_image guest_memory rv_decode rv_exec entry_calls guest_code \
+bare_machine machine_desk slot_desk sync_slab shadow_word shared_table"
 for name in $below; do
     mkdir -p "$work/crates/$name"
     for part in src specs proofs; do
@@ -265,7 +266,7 @@ pub fn work_at<R: Threads + Wait + Sync>(
     ensures opener { IsOpener shared.now seat.new }
 {
     let workers = turners(alloc, count)?;
-    match round(rt, alloc, shared, seat, workers) {
+    match round(rt, alloc, shared, seat, workers, 2) {
         Ok(_) => Ok(()),
         Err(_) => Err(AllocError),
     }

@@ -1,9 +1,10 @@
 -- What the world makes of a request, and what one instruction of one thread does.
-use Rattle.std.specs.Prelude.{ℕ, ◌+◌, ◌-◌, ◌^◌, ◌==◌, ◌||◌, nat_le, Bool, true, false, if◌then◌else◌, List, [], ◌∷◌, ◌++◌, length, take, count_by, slice_get, slice_set, slice_index, Option, Some, None, is_some, option_map, unwrap_or}
+use Rattle.std.specs.Prelude.{ℕ, ◌+◌, ◌-◌, ◌^◌, ◌==◌, ◌||◌, nat_le, Bool, true, false, if◌then◌else◌, List, [], ◌∷◌, ◌++◌, length, take, slice_get, slice_set, slice_index, Option, Some, None, is_some, option_map, unwrap_or}
 use Rattle.std.specs.Int.{w64, to_le_bytes}
 use Rattle.run_record.specs.declared.event.Event.{Event}
 use Rattle.run_record.specs.declared.event.Event.TheVariants.{Begin, End}
 use Rattle.run_record.specs.declared.finished.GuestEnd.{GuestEnd}
+use Rattle.run_record.specs.declared.finished.GuestEnd.TheVariants.{AllEnded}
 use Rattle.rv_decode.specs.declared.instr.Instr.{Instr}
 use Rattle.rv_exec.specs.declared.exec.Effect.{Effect}
 use Rattle.rv_exec.specs.Registers.{Registers, value}
@@ -19,7 +20,7 @@ use Rattle.entry_calls.specs.Effects.{events_by, word_by, answer_by}
 use Rattle.bare_machine.specs.declared.thread.Thread.{Thread}
 use Rattle.bare_machine.specs.declared.touch.Touched.{Touched}
 use Rattle.bare_machine.specs.Memory.{stripe, offset, touched, reserved, written}
-use Rattle.bare_machine.specs.World.{World, new_thread}
+use Rattle.bare_machine.specs.World.{World, new_thread, count_living}
 pub use Rattle.bare_machine.specs.Requests.{desk}
 use Rattle.bare_machine.specs.Requests.{Request, done, returned, touch, operate, put, create, join, stop, request}
 
@@ -44,6 +45,10 @@ goes_on w tid t events object = record {
 abbrev pub first_of : Option GuestEnd → Option GuestEnd → Option GuestEnd
 first_of None later = later
 first_of (Some e) later = Some e
+
+-- how a run has ended in this world: by the first exit or fault, or since no thread lives
+abbrev pub end_of : World → Option GuestEnd
+end_of w = first_of w.ended (if count_living w.threads == 0 then Some AllEnded else None)
 
 -- the thread ends, and with it the run where this is its first exit or fault
 abbrev pub stops : World → ℕ → Thread → Option GuestEnd → Step
@@ -106,7 +111,7 @@ minus n = 2 ^ 64 - n
 
 -- as many threads live as may, or as many were made as can be
 abbrev pub is_full : World → Bool
-is_full w = nat_le w.harts (count_by (λ (t : Thread). t.lives) w.threads) || (length w.threads == 1024)
+is_full w = nat_le w.harts (count_living w.threads) || (length w.threads == 1024)
 
 -- the new thread gets the next number
 abbrev pub create_step : World → ℕ → Thread → ℕ → ℕ → ℕ → Step

@@ -1,5 +1,5 @@
 -- What the bare machine keeps: its threads and memory.
-use Rattle.std.specs.Prelude.{◌≡◌, ℕ, List, [], ◌∷◌, length, map, Bool, true, false, Option, None, slice_get}
+use Rattle.std.specs.Prelude.{◌≡◌, ℕ, List, [], ◌∷◌, length, map, Bool, true, false, Option, None, slice_get, count_by}
 use Rattle.std.specs.List.{range_with_len}
 use Rattle.std.specs.Option.{option_map_or}
 use Rattle.run_record.specs.declared.finished.GuestEnd.{GuestEnd}
@@ -30,6 +30,10 @@ initial_memory file = record { words = map (initial_word file) (range_with_len 0
 -- the main thread at the entry address
 abbrev pub start : List ℕ → ℕ → World
 start file harts = record { threads = new_thread (entry file) 0 0x80000000 ∷ []; harts = harts; memory = initial_memory file; output = []; ended = None }
+
+-- how many of the threads live
+abbrev pub count_living : List Thread → ℕ
+count_living threads = count_by (λ (t : Thread). t.lives) threads
 
 abbrev pub lives : World → ℕ → Bool
 lives w tid = option_map_or (λ (t : Thread). t.lives) (slice_get w.threads tid) false

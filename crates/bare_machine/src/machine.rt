@@ -4,7 +4,7 @@ ghost use Rattle.bare_machine.specs.declared.thread.Thread.{Thread};
 ghost use Rattle.bare_machine.specs.World.{start, lives, HasMemory};
 ghost use Rattle.rv_exec.specs.Faults.{number_of};
 ghost use Rattle.bare_machine.specs.Preview as previews;
-ghost use Rattle.bare_machine.specs.Step.{step, first_of, first_events};
+ghost use Rattle.bare_machine.specs.Step.{step, first_of, first_events, end_of};
 ghost use Rattle.bare_machine.specs.Locals.{AreLocalSteps};
 ghost use Rattle.bare_machine.specs.Asked.{Asks, IsSound, IsShallow, IsWithin, IsUndone};
 
@@ -22,6 +22,8 @@ use std::marker::Model;
 #[derive(Drop)]
 pub struct Machine {
     pub(crate) threads: Vec<Thread>,
+    // How many of them live.
+    pub(crate) living: u32,
     pub(crate) harts: u32,
     pub(crate) memory: Memory,
     pub(crate) output: Vec<u8>,
@@ -29,14 +31,14 @@ pub struct Machine {
 }
 
 impl Model for Machine {
-    ghost use Rattle.std.specs.Prelude.{◌≤◌, length};
-    ghost use Rattle.bare_machine.specs.World.{World};
+    ghost use Rattle.std.specs.Prelude.{◌≡◌, ◌≤◌, length};
+    ghost use Rattle.bare_machine.specs.World.{World, count_living};
 
     ghost Value = { World };
 
     ghost view = { λ m. record { threads = m.threads.items; harts = m.harts; memory = m.memory; output = m.output.items; ended = m.ended } };
 
-    ghost invariant = { λ m. length m.threads.items ≤ 1024 };
+    ghost invariant = { λ m. (length m.threads.items ≤ 1024) × (m.living ≡ count_living m.threads.items) };
 }
 
 /// The object that isn't a stripe of memory.
@@ -99,6 +101,7 @@ impl Machine {
         threads.push(new_thread(image.entry(), 0, 0x8000_0000))?;
         Ok(Machine {
             threads,
+            living: 1,
             harts,
             memory: Memory::new(alloc, image)?,
             output: Vec::new(alloc),
@@ -196,6 +199,7 @@ impl Machine {
     {
         let Machine {
             threads: _,
+            living: _,
             harts: _,
             memory: _,
             output,
@@ -204,10 +208,11 @@ impl Machine {
         output
     }
 
-    /// The first exit or fault.
+    /// Whether and how the run has ended: by the first exit or fault, or since no thread lives.
     pub fn ended(&self) -> Option<GuestEnd>
-        ensures { result ≡ self.now.ended }
+        ensures { result ≡ end_of self.now }
     {
-        self.ended
+        let last = (self.living == 0).then_some(GuestEnd::AllEnded);
+        first_end(self.ended, last)
     }
 }

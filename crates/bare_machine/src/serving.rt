@@ -1,5 +1,5 @@
 // What the machine makes of a request.
-ghost use Rattle.std.specs.Prelude.{◌≡◌, ◌+◌, ◌-◌, ◌<◌, ◌≤◌, ◌++◌, ℕ, true, false, [], length, slice_get, count_by, Option, Some, is_some, option_map, unwrap_or, IfOk, OnOk, OnErr};
+ghost use Rattle.std.specs.Prelude.{◌≡◌, ◌+◌, ◌-◌, ◌<◌, ◌≤◌, ◌++◌, ℕ, true, false, [], length, slice_get, Option, Some, is_some, option_map, unwrap_or, IfOk, OnOk, OnErr};
 ghost use Rattle.guest_memory.specs.Fields.{with_field, IsField};
 ghost use Rattle.entry_calls.specs.declared.call.Outcome.{Outcome};
 ghost use Rattle.entry_calls.specs.Effects.{IsAnswered, events_by};
@@ -72,12 +72,6 @@ pub fn replaced(word: u64, addr: u64, size: u8, stored: Option<u64>) -> Option<u
         Some(value) => Some(with_field(word, offset(addr), size, value)),
         None => None,
     }
-}
-
-fn live_count(threads: &[Thread]) -> usize
-    ensures { result ≡ count_by (λ (t : Thread). t.lives) threads.now }
-{
-    threads.iter().filter(|thread| thread.lives).count()
 }
 
 /// The thread's instruction is done. Its first one begins it.
@@ -220,7 +214,7 @@ impl Machine {
         ensures value { result ≡ step_of.is_full self.now }
         ensures room { result ≡ false → length self.now.threads < 1024 }
     {
-        live_count(self.threads.as_slice()) >= self.harts as usize || self.threads.len() == 1024
+        self.living >= self.harts || self.threads.len() == 1024
     }
 
     // The new thread gets the next number.
@@ -249,6 +243,7 @@ impl Machine {
         }
         let number = self.threads.len() as u64;
         self.threads.push(new_thread(pc, argument, stack))?;
+        self.living += 1;
         self.answer(tid, &call, number, events);
         Ok(())
     }
@@ -285,6 +280,9 @@ impl Machine {
     {
         let thread = &mut self.threads[tid as usize];
         begin_thread(thread, events);
+        if thread.lives {
+            self.living -= 1;
+        }
         thread.lives = false;
         events.push(Event::End);
         self.ended = first_end(self.ended, end);

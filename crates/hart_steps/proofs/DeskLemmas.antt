@@ -5,10 +5,11 @@ use Rattle.bare_machine.specs.Requests.{request}
 use Rattle.place_turns.specs.Turns.{served}
 use Rattle.bare_machine.specs.declared.request.Request.{Request}
 use Rattle.hart_steps.specs.declared.hart.Hart.{Hart}
-use Rattle.hart_steps.specs.declared.desk.MachineDesk.{MachineDesk}
+use Rattle.machine_desk.specs.declared.MachineDesk.{MachineDesk}
+use Rattle.machine_desk.specs.Desks.{is_full}
 use Rattle.bare_machine.specs.Asked.{asked}
 use Rattle.hart_steps.specs.Harts.{local_of, turn, leaves}
-use Rattle.hart_steps.specs.Desks.{desk_value, is_full, lives_after, IsToldOf}
+use Rattle.hart_steps.specs.Desks.{desk_value, lives_after, IsToldOf}
 
 module _ (t harts : ℕ) (h : Hart) (d : MachineDesk) (living : ℕ) (joined : Option Bool) (new : Hart) (d' : MachineDesk) (es : List Event) where
   abbrev full : Bool

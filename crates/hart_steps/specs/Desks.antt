@@ -1,8 +1,7 @@
 -- The desk without the threads that live, which the layer above keeps.
-use Rattle.std.specs.Prelude.{◌≡◌, ℕ, ◌<◌, ◌==◌, ◌||◌, nat_le, Bool, true, false, if◌then◌else◌, List, [], ◌∷◌, ◌++◌, length, count_by, slice_get, slice_set, Option, Some}
-use Rattle.bare_machine.specs.declared.thread.Thread.{Thread}
+use Rattle.std.specs.Prelude.{◌≡◌, ℕ, ◌<◌, Bool, true, false, if◌then◌else◌, List, [], ◌∷◌, ◌++◌, count_by, slice_get, slice_set, Option, Some}
 use Rattle.place_turns.specs.Places.{Desk, Value, of_desk}
-use Rattle.hart_steps.specs.declared.desk.MachineDesk.{MachineDesk}
+use Rattle.machine_desk.specs.declared.MachineDesk.{MachineDesk}
 use Rattle.bare_machine.specs.declared.request.Request.{Request}
 use Rattle.bare_machine.specs.declared.request.Request.TheVariants as kinds
 
@@ -12,10 +11,6 @@ desk_with d lives = record { made = d.made; lives = lives; output = d.output; en
 
 abbrev pub desk_value : MachineDesk → List Bool → Value
 desk_value d lives = of_desk (desk_with d lives)
-
--- as many threads live as may, or as many were made as can be
-abbrev pub is_full : ℕ → ℕ → List Thread → Bool
-is_full harts living made = nat_le harts living || (length made == 1024)
 
 -- a join is told whether its thread lives, if it was made
 abbrev pub IsJoinedOf : Request → List Bool → Option Bool → Type 0

@@ -8,33 +8,14 @@ ghost use Rattle.bare_machine.specs.Requests as requests;
 ghost use Rattle.bare_machine.specs.Asked.{asked, IsSound};
 ghost use Rattle.hart_steps.specs.Asked.{UsesDesk};
 ghost use Rattle.hart_steps.specs.Harts.{local_of, turn, leaves};
-ghost use Rattle.hart_steps.specs.Desks as desks;
+ghost use Rattle.machine_desk.specs.Desks as desks;
 ghost use Rattle.hart_steps.specs.Desks.{desk_with, desk_value, lives_after, IsToldOf, IsKnown};
 
 use crate::Hart;
-use bare_machine::{Request, Thread, begin_thread, finish_call, first_end, minus, new_thread};
+use bare_machine::{Request, begin_thread, finish_call, first_end, minus, new_thread};
 use entry_calls::{Call, CallEvents};
-use run_record::{Bytes, Event, GuestEnd, Items, NoMemory};
-
-/// What the machine has at the desk: the threads by number as they were made, the bytes that were put, and the first
-/// exit or fault. Which threads live is kept by the layer above.
-#[derive(Drop)]
-pub struct MachineDesk {
-    pub made: Items<Thread>,
-    pub output: Bytes,
-    pub ended: Option<GuestEnd>,
-}
-
-impl MachineDesk {
-    // As many threads live as may, or as many were made as can be.
-    fn is_full(&self, harts: u32, living: u32) -> bool
-        requires { length self.now.made ≤ 1024 }
-        ensures value { result ≡ desks.is_full harts living self.now.made }
-        ensures room { result ≡ false → length self.now.made < 1024 }
-    {
-        living >= harts || self.made.len() == 1024
-    }
-}
+use machine_desk::MachineDesk;
+use run_record::{Event, GuestEnd, NoMemory};
 
 // What a join of a thread answers, where it is told whether that lives.
 fn join_answer(joined: Option<bool>) -> u64

@@ -9,11 +9,11 @@ ghost use Rattle.hart_steps.specs.Asked.{Asks, IsAlone};
 ghost use Rattle.hart_steps.specs.Harts.{absent, local_of, turn, leaves, AreLocalTurns};
 ghost use Rattle.hart_steps.specs.Desks.{desk_value};
 
-use crate::MachineDesk;
 use bare_machine::{Request, Thread, begin_thread, return_thread};
 use elf_image::Image;
 use entry_calls::CallEvents;
 use guest_code::Code;
+use machine_desk::MachineDesk;
 
 /// What a thread that has arrived keeps itself: its registers and how far it is, and the granule that it reserved last,
 /// where no conditional store has followed.

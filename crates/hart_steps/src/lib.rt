@@ -18,5 +18,4 @@ mod stripe;
 #[cfg(test)]
 mod tests;
 
-pub use desk::MachineDesk;
 pub use hart::Hart;

@@ -1,9 +1,10 @@
 // Turns of threads on a file of a few instructions.
-use crate::{Hart, MachineDesk};
+use crate::Hart;
 use bare_machine::{Request, new_thread};
 use elf_image::{Image, load};
 use entry_calls::CallEvents;
 use guest_memory::Reservations;
+use machine_desk::MachineDesk;
 use run_record::{Event, GuestEnd, Items, NoMemory};
 use shared_table::GuestWords;
 use std::alloc::{AllocError, Global};

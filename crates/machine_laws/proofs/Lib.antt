@@ -6,3 +6,4 @@ pub mod StepLaw
 pub mod NeedLaw
 pub mod ThreadLaw
 pub mod DeskLaw
+pub mod EndLaw

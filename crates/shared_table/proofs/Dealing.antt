@@ -11,7 +11,7 @@ use Rattle.shared_table.specs.declared.object.DeskState.{DeskState}
 use Rattle.shared_table.specs.declared.object.Object.TheVariants.{Stripe, Desk}
 use Rattle.shared_table.specs.declared.view.Layout.{Layout}
 use Rattle.shared_table.specs.Layouts.{stripe_at, count_below, size_in, place_in, objects_of, first_of, IsFirstStripe, IsFirstDesk, IsLaidOut}
-use Rattle.shared_table.specs.Past.{Slot, IsSoundSlot, IsDeskOf}
+use Rattle.shared_table.specs.Past.{Slot, IsSoundSlot, IsDeskOf, HasThreads}
 use Rattle.shared_table.specs.Rule.{slot_place}
 use Rattle.shared_table.specs.Opening.{words_in, IsBlank, slot_at, AreBlank, AreDealt, spread}
 use Rattle.shared_table.proofs.Pasts.{if_here, if_else}
@@ -123,18 +123,19 @@ many : (n : ℕ) (x : SlotContents) → length (replicate n x) ≡ n
 many zero x = refl
 many (suc n) x = ap suc (many n x)
 
-sound_desk : (limits : Limits) (lay : Layout) (k : ℕ) (x : Slot) → k ≡ 64 → lay.limits ≡ limits → IsFirstDesk limits x → IsSoundSlot lay k x
-sound_desk limits lay k None e same first = first
-sound_desk limits lay k (Some (Stripe s)) e same first = absurd first
-sound_desk limits lay k (Some (Desk d)) e same first = (
+sound_desk : (image : List ℕ) (limits : Limits) (lay : Layout) (k : ℕ) (x : Slot) → k ≡ 64 → lay.limits ≡ limits → IsFirstDesk image limits x → IsSoundSlot lay k x
+sound_desk image limits lay k None e same first = first
+sound_desk image limits lay k (Some (Stripe s)) e same first = absurd first
+sound_desk image limits lay k (Some (Desk d)) e same first = (
   e,
   subst (λ (z : DeskState). IsDeskOf lay.limits z.desk) (sym first)
       (ap (λ (z : Limits). z.harts) (sym same), ap (λ (z : Limits). z.epochs) (sym same), many limits.slots (fresh_slot limits.slots) ∙ ap (λ (z : Limits). z.slots) (sym same)),
+  subst HasThreads (sym first) (refl, omega arith),
 )
 
 module _ (image : List ℕ) (limits : Limits) (lay : Layout) (stripes : List Slot) (places : List ℕ) where
   -- from the dealt stripes and the desk to the layout
-  pub laid_out : AreDealt image limits (granules_of image) stripes places → (d : Slot) → IsFirstDesk limits d → lay.firsts ≡ stripes ++ d ∷ [] → lay.limits ≡ limits → lay.granules ≡ granules_of image
+  pub laid_out : AreDealt image limits (granules_of image) stripes places → (d : Slot) → IsFirstDesk image limits d → lay.firsts ≡ stripes ++ d ∷ [] → lay.limits ≡ limits → lay.granules ≡ granules_of image
       → ((k : ℕ) → k < length stripes → get_or lay.sizes k 0 ≡ length (words_in (slot_at stripes k))) → IsLaidOut image limits lay
   laid_out dealt d first firsts same granules sizes =
       let long = dealt.all_stripes in
@@ -147,7 +148,7 @@ module _ (image : List ℕ) (limits : Limits) (lay : Layout) (stripes : List Slo
         stripes = λ k l. subst (IsFirstStripe image limits k) (sym (front k l))
             (first_stripe image limits k (slot_at stripes k) (dealt.blank k l) (dealt.sizes k l)
             (λ g b e. subst (λ (j : ℕ). get_or (words_in (slot_at stripes j)) (place_in image g) 0 ≡ initial_word image g) e (dealt.words g b)));
-        desk = subst (IsFirstDesk limits) (sym (ap (λ (z : List Slot). slot_at z 64) firsts ∙ snoc_here stripes d None 64 long)) first;
+        desk = subst (IsFirstDesk image limits) (sym (ap (λ (z : List Slot). slot_at z 64) firsts ∙ snoc_here stripes d None 64 long)) first;
       }
 
 -- the first values are sound
@@ -155,7 +156,7 @@ pub firsts_sound : (image : List ℕ) (limits : Limits) (lay : Layout) → IsLai
 firsts_sound image limits lay h k l =
     let objects = h.objects in
     dite (ℕ_discrete k 64)
-    (λ e. subst (IsSoundSlot lay k) (ap (first_of lay) (sym e)) (sound_desk limits lay k (first_of lay 64) e h.same_limits h.desk))
+    (λ e. subst (IsSoundSlot lay k) (ap (first_of lay) (sym e)) (sound_desk image limits lay k (first_of lay 64) e h.same_limits h.desk))
     (λ o. let below : k < 64 = omega arith in sound_stripe image limits lay k (first_of lay k) below h.same_limits (h.sizes k below) (h.stripes k below))
 
 -- a value stands at twice its number

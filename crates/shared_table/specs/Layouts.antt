@@ -1,8 +1,9 @@
 -- How a table is laid out: which granules a stripe has, and where a granule's word stands in it.
 use Rattle.std.specs.Prelude.{◌≡◌, ℕ, zero, suc, ◌*◌, ◌/◌, ◌%◌, ◌<◌, ◌==◌, if◌then◌else◌, List, [], length, slice_index, slice_index_or, Option, None, Some}
 use Rattle.run_record.specs.declared.limits.Limits.{Limits}
-use Rattle.elf_image.specs.File.{granules_of, granule_address, initial_word}
+use Rattle.elf_image.specs.File.{entry, granules_of, granule_address, initial_word}
 use Rattle.slot_desk.specs.Steps.{new_desk}
+use Rattle.machine_desk.specs.Desks.{first_desk}
 use Rattle.atomic_table.specs.Seated.{TableId}
 use Rattle.shared_table.specs.declared.object.Object.{Object}
 use Rattle.shared_table.specs.declared.object.Object.TheVariants.{Stripe, Desk}
@@ -48,11 +49,11 @@ IsFirstStripe image limits k (Some (Stripe s)) =
     × ((granule : ℕ) → granule < granules_of image → stripe_at image granule ≡ k → slice_index s.value.words (place_in image granule) ≡ initial_word image granule)
     × (s.value.reserved ≡ []) × (s.value.sync.slots ≡ limits.slots) × (s.value.sync.objects ≡ []) × (s.value.last ≡ 0)
 
--- the desk as it begins
-abbrev pub IsFirstDesk : Limits → Option Object → Type 0
-IsFirstDesk limits None = ⊥
-IsFirstDesk limits (Some (Stripe s)) = ⊥
-IsFirstDesk limits (Some (Desk d)) = d.value ≡ record { desk = new_desk limits; last = 0 }
+-- the desk as it begins: the main thread at the image's entry, each slot free, no stamp
+abbrev pub IsFirstDesk : List ℕ → Limits → Option Object → Type 0
+IsFirstDesk image limits None = ⊥
+IsFirstDesk image limits (Some (Stripe s)) = ⊥
+IsFirstDesk image limits (Some (Desk d)) = d.value ≡ record { desk = new_desk limits; machine = first_desk (entry image); last = 0 }
 
 -- a table of these limits over an image: 64 stripes and the desk, as they begin
 pub record IsLaidOut (image : List ℕ) (limits : Limits) (lay : Layout) : Type 0 where
@@ -61,7 +62,7 @@ pub record IsLaidOut (image : List ℕ) (limits : Limits) (lay : Layout) : Type 
   pub objects : objects_of lay ≡ 65
   pub sizes : (k : ℕ) → k < 64 → slice_index lay.sizes k ≡ size_in image k
   pub stripes : (k : ℕ) → k < 64 → IsFirstStripe image limits k (first_of lay k)
-  pub desk : IsFirstDesk limits (first_of lay 64)
+  pub desk : IsFirstDesk image limits (first_of lay 64)
 
 -- what contracts see of a table: which it is, its layout, and where the word of each granule stands in its stripe
 pub record SharedTable : Type 0 where

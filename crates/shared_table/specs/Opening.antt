@@ -34,8 +34,8 @@ pub record AreDealt (image : List ℕ) (limits : Limits) (n : ℕ) (stripes : Li
   pub words : (granule : ℕ) → granule < n → slice_index (words_in (slot_at stripes (stripe_at image granule))) (place_in image granule) ≡ initial_word image granule
 
 -- the desk, as it begins, stands behind the objects
-abbrev pub HasDesk : Limits → List Slot → List Slot → Type 0
-HasDesk limits objects all = (d : Slot) × IsFirstDesk limits d × (all ≡ objects ++ d ∷ [])
+abbrev pub HasDesk : List ℕ → Limits → List Slot → List Slot → Type 0
+HasDesk image limits objects all = (d : Slot) × IsFirstDesk image limits d × (all ≡ objects ++ d ∷ [])
 
 -- three empty slots after each value
 abbrev pub spread : List Slot → List Slot

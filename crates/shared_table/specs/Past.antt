@@ -1,12 +1,13 @@
 -- The past of a table: all steps of all seats, the newest first, each with the number of its seat.
 -- Read from its end it is one order of all steps. What the words, the objects and the logs are follows from it.
-use Rattle.std.specs.Prelude.{◌≡◌, ◌≢◌, ℕ, ◌+◌, ◌*◌, ◌<◌, ◌==◌, if◌then◌else◌, List, [], ◌∷◌, ◌++◌, length, slice_index, slice_set, Option, None, Some, IsSomeAnd}
+use Rattle.std.specs.Prelude.{◌≡◌, ◌≢◌, ℕ, ◌+◌, ◌*◌, ◌<◌, ◌≤◌, ◌==◌, if◌then◌else◌, List, [], ◌∷◌, ◌++◌, length, slice_index, slice_set, Option, None, Some, IsSomeAnd}
 use mathlib.Core.Option.{some}
 use lib.ListN.{get_elem?}
 use Rattle.run_record.specs.declared.limits.Limits.{Limits}
 use Rattle.shadow_word.specs.declared.cell.Cell.{Cell}
 use Rattle.shadow_word.specs.Cells.{cell_in}
 use Rattle.slot_desk.specs.Desks.{DeskContents}
+use Rattle.shared_table.specs.declared.object.DeskState.{DeskState}
 use Rattle.shared_table.specs.declared.object.Object.{Object}
 use Rattle.shared_table.specs.declared.object.Object.TheVariants.{Desk, Stripe}
 use Rattle.shared_table.specs.declared.view.Layout.{Layout}
@@ -27,10 +28,14 @@ Past = List (ℕ × Item)
 abbrev pub IsDeskOf : Limits → DeskContents → Type 0
 IsDeskOf limits d = (d.harts ≡ limits.harts) × (d.greatest ≡ limits.epochs) × (length d.slots ≡ limits.slots)
 
--- A stripe has a word for each granule of its number, and synchronisation objects for the slots of the run. The object 64 is a desk for the limits of the run.
+-- the machine has each thread that the desk has, and room for 1,024
+abbrev pub HasThreads : DeskState → Type 0
+HasThreads d = (length d.machine.made ≡ d.desk.made) × (d.desk.made ≤ 1024)
+
+-- A stripe has a word for each granule of its number, and synchronisation objects for the slots of the run. The object 64 is a desk for the limits of the run, with as many threads as the machine has made.
 abbrev pub IsSound : Layout → ℕ → Object → Type 0
 IsSound lay k (Stripe s) = (k < 64) × (length s.value.words ≡ slice_index lay.sizes k) × (s.value.sync.slots ≡ lay.limits.slots)
-IsSound lay k (Desk d) = (k ≡ 64) × IsDeskOf lay.limits d.value.desk
+IsSound lay k (Desk d) = (k ≡ 64) × IsDeskOf lay.limits d.value.desk × HasThreads d.value
 
 abbrev pub IsSoundSlot : Layout → ℕ → Slot → Type 0
 IsSoundSlot lay k None = ⊥

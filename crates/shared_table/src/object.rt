@@ -2,6 +2,7 @@
 ghost use Rattle.std.specs.Prelude.{◌≡◌, ◌<◌, ◌∷◌, ◌++◌, [], length, slice_index, slice_set, OnOk};
 
 use guest_memory::Reservations;
+use machine_desk::MachineDesk;
 use slot_desk::Desk;
 use std::alloc::AllocError;
 use std::marker::Model;
@@ -84,10 +85,14 @@ pub struct Stripe {
     pub last: u64,
 }
 
-/// The desk, and the stamp of the last entry that used it; 0 before the first.
+/// The desk.
 #[derive(Drop)]
 pub struct DeskState {
+    /// The slots, which threads live, and the clocks that wait for threads.
     pub desk: Desk,
+    /// The threads as they were made, the output, and the first exit or fault.
+    pub machine: MachineDesk,
+    /// The stamp of the last entry that used it; 0 before the first.
     pub last: u64,
 }
 

@@ -8,6 +8,7 @@ ghost use Rattle.shared_table.specs.Opening.{words_in, IsBlank, AreBlank, AreDea
 use crate::object::{DeskState, GuestWords, Object, Slot, Stripe};
 use elf_image::Image;
 use guest_memory::Reservations;
+use machine_desk::MachineDesk;
 use run_record::{Limits, NoMemory};
 use slot_desk::Desk;
 use std::alloc::{AllocError, Global};
@@ -100,14 +101,21 @@ pub(crate) fn sizes_of(alloc: Global, stripes: &[Slot]) -> Result<Vec<u32>, NoMe
 /// The desk behind the stripes.
 pub(crate) fn with_desk(
     alloc: Global,
+    image: &Image,
     limits: &Limits,
     mut objects: Vec<Slot>,
 ) -> Result<Vec<Slot>, NoMemory>
     requires { AreDeskLimits limits.now }
-    ensures { IfOk result (λ v. HasDesk limits.now objects.items v.items) }
+    ensures { IfOk result (λ v. HasDesk image.now limits.now objects.items v.items) }
 {
     let desk = Desk::new(alloc, limits)?;
-    let state = Box::new(alloc, DeskState { desk, last: 0 })?;
+    let machine = MachineDesk::new(alloc, image.entry())?;
+    let state = DeskState {
+        desk,
+        machine,
+        last: 0,
+    };
+    let state = Box::new(alloc, state)?;
     objects.push(Some(Object::Desk(state)))?;
     Ok(objects)
 }

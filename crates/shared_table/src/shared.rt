@@ -91,7 +91,7 @@ impl Shared {
         let granules = image.granules();
         let dealt = deal(alloc, image, limits)?;
         let sizes = sizes_of(alloc, dealt.stripes.as_slice())?;
-        let firsts = with_desk(alloc, limits, dealt.stripes)?;
+        let firsts = with_desk(alloc, image, limits, dealt.stripes)?;
         let cell_count = 4 * granules as usize;
         let words = zeros(alloc, CELLS_FROM + cell_count)?;
         let stripes = Vec::with_capacity(alloc, 64)?;

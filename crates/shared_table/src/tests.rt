@@ -5,7 +5,7 @@ ghost use Rattle.shared_table.specs.Layouts.{cells_of};
 ghost use Rattle.shared_table.specs.Past.{IsSound};
 ghost use Rattle.shared_table.specs.Seats.{IsSeatOf, IsFree, Holds};
 
-use crate::{Object, Shared, SharedSeat, Worker, round};
+use crate::{Object, Shared, SharedSeat, Worker, round, useful_threads};
 use elf_image::load;
 use run_record::Limits;
 use std::alloc::{AllocError, Global};
@@ -169,7 +169,7 @@ fn turns_follow(rt: HostRuntime) -> Result<(), Fail> {
     assert!(rt; granules == 8320);
     let (shared, mut seat) = Shared::new(alloc, &image, &limits())?;
     let workers = turners(alloc)?;
-    let workers = round(&rt, alloc, &shared, &mut seat, workers)?;
+    let workers = round(&rt, alloc, &shared, &mut seat, workers, useful_threads(&rt))?;
     for object in 0..65 {
         for stamp in 0..4 * PASSES {
             assert!(rt;
@@ -215,5 +215,10 @@ fn begins_with_the_image(rt: HostRuntime) -> Result<(), Fail> {
     };
     assert_eq!(rt; first, (130, Some(0x0807_0605_0403_0201)));
     assert_eq!(rt; (closed.stripes.len(), closed.cells.len()), (64, 33_280));
+    let main = match &closed.desk {
+        Some(desk) => desk.machine.made.as_slice().first().copied(),
+        None => None,
+    };
+    assert!(rt; matches!(main, Some(thread) if thread.lives && thread.regs.pc() == 0x1_0000));
     Ok(())
 }

@@ -68,7 +68,7 @@ fn open<W: Drop>(
     parts
 }
 
-// All parts at once, or one after another where no thread can be started.
+// All parts, on so many threads of the host at most.
 fn run<R: Threads + Wait + Sync, W: Worker + Send>(
     rt: &R,
     shared: &Shared,
@@ -117,16 +117,29 @@ fn join_all<W: Drop>(
     workers
 }
 
-/// A round: each worker does its part with a new seat, all at once, or one after another where no
-/// thread can be started. The opening seat has all logs afterwards. After an error nothing was made,
-/// and the workers are lost.
+/// How many threads of the host a round may well have: one for each processor, and two where there is one.
+/// It asks the host, so a run asks once.
+pub fn useful_threads<R: Threads>(rt: &R) -> usize
+    ensures { 2 ≤ result }
+{
+    match thread::available_parallelism(rt) {
+        Ok(count) => count.get().max(2),
+        Err(_) => 2,
+    }
+}
+
+/// A round: each worker does its part with a new seat, on so many threads of the host at most. Parts of one
+/// thread follow one another; so do all where no thread can be started. The opening seat has all logs
+/// afterwards. After an error nothing was made, and the workers are lost.
 pub fn round<R: Threads + Wait + Sync, W: Worker + Send + Drop>(
     rt: &R,
     alloc: Global,
     shared: &Shared,
     seat: &mut SharedSeat,
     workers: Vec<W>,
+    threads: usize,
 ) -> Result<Vec<W>, NoMemory>
+    requires threads { 0 < threads }
     requires opener { IsOpener shared.now seat.old }
     requires can { All (W.can_work shared.now) workers.items }
     ensures opener { IsOpener shared.now seat.new }
@@ -138,7 +151,7 @@ pub fn round<R: Threads + Wait + Sync, W: Worker + Send + Drop>(
     let parts = Vec::with_capacity(alloc, count)?;
     let room = Vec::with_capacity(alloc, count)?;
     let opened = open(shared, seat, workers, parts);
-    let done = run(rt, shared, opened, count.max(1));
+    let done = run(rt, shared, opened, threads.min(count.max(1)));
     let after = join_all(shared, seat, done, room);
     shared.learn(seat);
     Ok(after)

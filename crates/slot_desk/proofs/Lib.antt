@@ -8,4 +8,5 @@ pub mod Holders
 pub mod InsideLaws
 pub mod JournalLaws
 pub mod KeptLaws
+pub mod LivesLaws
 pub mod SeenLaws

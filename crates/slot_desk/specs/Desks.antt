@@ -1,5 +1,5 @@
 -- What a desk keeps.
-use Rattle.std.specs.Prelude.{◌≡◌, ℕ, ◌+◌, ◌==◌, nat_le, Bool, true, false, ◌&&◌, not, if◌then◌else◌, Option, Some, None, is_none, List, [], ◌∷◌, replicate, count_by, slice_index_or}
+use Rattle.std.specs.Prelude.{◌≡◌, ℕ, ◌+◌, ◌==◌, nat_le, Bool, true, false, ◌&&◌, not, if◌then◌else◌, Option, Some, None, is_none, List, [], ◌∷◌, replicate, map, take, count_by, slice_index_or}
 use Rattle.slot_desk.specs.declared.slot.Attachment.{Attachment}
 
 -- A slot in this era: who owns it and since which epoch, whether its epochs are spent, the last epoch of its last owner and the clock that this one left, and all attachments, the first one first.
@@ -48,6 +48,10 @@ thread_of d tid = slice_index_or d.threads tid no_thread
 -- how many threads live
 abbrev pub live_of : DeskContents → ℕ
 live_of d = count_by (λ (t : ThreadContents). t.lives) d.threads
+
+-- which of the threads that were made live
+abbrev pub lives_of : DeskContents → List Bool
+lives_of d = take d.made (map (λ (t : ThreadContents). t.lives) d.threads)
 
 -- the slot and the epoch of its attachment where the thread owns it, and else what comes last
 abbrev pub held_or : ℕ → ℕ → Option Attachment → Option (ℕ × ℕ) → Option (ℕ × ℕ)

@@ -1,6 +1,6 @@
 // The desk.
-ghost use Rattle.std.specs.Prelude.{◌≡◌, ◌↔◌, ◌<◌, ◌≤◌, length, true, IfOk, IfSome, IsSomeAnd, None, slice_index};
-ghost use Rattle.slot_desk.specs.Desks.{NoneIsFree, slot_of, thread_of, held_of, owner_at};
+ghost use Rattle.std.specs.Prelude.{◌≡◌, ◌↔◌, ◌<◌, ◌≤◌, length, count_by, Bool, true, IfOk, IfSome, IsSomeAnd, None, slice_get, slice_index};
+ghost use Rattle.slot_desk.specs.Desks.{NoneIsFree, slot_of, thread_of, live_of, lives_of, held_of, owner_at};
 ghost use Rattle.slot_desk.specs.Steps.{AreDeskLimits, new_desk, attached, after_attach, clock_after_attach, after_detach, joined_told, created, after_create, after_end, join_answer, clock_after_join, after_reset};
 
 use crate::queue::refill;
@@ -75,6 +75,25 @@ impl Desk {
             Some(thread) => thread.lives,
             None => false,
         }
+    }
+
+    /// How many threads live.
+    pub fn living(&self) -> u32
+        ensures value { result ≡ live_of self.now }
+        ensures counted { result ≡ count_by (λ (b : Bool). b) (lives_of self.now) }
+        ensures few { result ≤ self.now.harts }
+    {
+        self.live
+    }
+
+    /// Whether a thread lives, if it was made.
+    pub fn lives_if_made(&self, tid: u64) -> Option<bool>
+        ensures { result ≡ slice_get (lives_of self.now) tid }
+    {
+        if tid >= self.made as u64 {
+            return None;
+        }
+        Some(self.threads[tid as usize].lives)
     }
 
     /// The thread's slot, and the epoch of its attachment.

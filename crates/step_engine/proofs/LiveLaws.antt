@@ -1,6 +1,6 @@
 -- Which threads live after the turns of a round.
 use Rattle.std.proofs.Common.{◌≡◌, ℕ, zero, suc, ◌+◌, ◌-◌, ◌<◌, ◌≤◌, Bool, true, false, cond, inl, inr, Option, Some, None, List, [], ◌∷◌, ◌++◌, length, refl, ap, sym, subst, ◌∙◌, arith, append_assoc}
-use Rattle.std.specs.Prelude.{fold, filter, find, slice_get, nat_lt, is_some}
+use Rattle.std.specs.Prelude.{fold, filter, find, slice_get, nat_lt}
 use Rattle.std.specs.Option.{option_or}
 use Rattle.run_laws.specs.Rounds.{next_live}
 use Rattle.std.proofs.lemmas.Bool.{cases_eq}
@@ -178,10 +178,6 @@ next-lives p xs (Some l) t e = go (find (nat_lt l) (filter p xs)) refl e
 pub none-found : (xs : List ℕ) → length xs ≡ 0 → find (λ (t : ℕ). true) xs ≡ None
 none-found [] e = refl
 none-found (x ∷ xs) e = absurd (omega arith)
-
-pub first-found : (xs : List ℕ) → 0 < length xs → is_some (find (λ (t : ℕ). true) xs) ≡ true
-first-found [] l = absurd (omega arith)
-first-found (x ∷ xs) l = refl
 
 -- one more number
 pub filter-next : (p : ℕ → Bool) (k n : ℕ) → filter p (up_from k (n + 1)) ≡ filter p (up_from k n) ++ cond (p (k + n)) ((k + n) ∷ []) []

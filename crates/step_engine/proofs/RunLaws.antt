@@ -12,6 +12,7 @@ use Rattle.run_record.specs.declared.finished.GuestEnd.TheVariants.{Budget}
 use Rattle.elf_image.specs.File.{image_of, granule_of, granule_address}
 use Rattle.elf_image.proofs.MemoryLaws.{granule_address-of}
 use Rattle.bare_machine.specs.World.{World, lives}
+use Rattle.bare_machine.specs.Step.{end_of}
 use Rattle.run_laws.specs.Moments.{moments}
 use Rattle.run_laws.specs.Faithful.{OneByOne, state_after, needs_slot}
 use Rattle.run_laws.specs.Lawful.{IsLawful, IsWholeRun}
@@ -22,12 +23,13 @@ use Rattle.report_laws.specs.Sound.{IsSound, TellsAddresses}
 use Rattle.report_laws.specs.Races.{StandsForRace}
 use Rattle.report_laws.proofs.RaceReports.{races_kept}
 use Rattle.machine_laws.specs.Machine.{bare_of}
+use Rattle.machine_laws.proofs.EndLaw as ends
 use Rattle.thread_turns.specs.declared.watched.WatchedMachine.{WatchedMachine}
 use Rattle.thread_turns.specs.Ranges.{AreLimits}
 use Rattle.thread_turns.specs.Follows.{Follows}
 use Rattle.step_engine.specs.declared.engine.Engine.{Engine}
 use Rattle.step_engine.specs.declared.engine.Due as chosen
-use Rattle.step_engine.specs.Live.{live_of, end_of}
+use Rattle.step_engine.specs.Live.{live_of}
 use Rattle.step_engine.specs.Progress.{progress, due_of, IsReady, MakesRound}
 use Rattle.step_engine.specs.Rounds.{Told}
 use Rattle.step_engine.specs.Run.{kept_in, IsRun}
@@ -55,7 +57,7 @@ module _ (file : List ℕ) (limits : Limits) (plan : List Turn) (e : Engine) (re
   dues_are = ap (λ (s : World). option_to_list (due_turn limits (live_of s) e.last e.remaining (from_live (lives s) (drop e.turn plan)))) (sym ready.between.follows.machine)
 
   end_is : end_in (bare_of file limits.harts) (state_after (bare_of file limits.harts) e.entries) ≡ end_of e.watched.machine
-  end_is = ap end_of (sym ready.between.follows.machine)
+  end_is = ap (end_in (bare_of file limits.harts)) (sym ready.between.follows.machine) ∙ sym (ends.end_is file limits.harts e.watched.machine)
 
   turns_are : turns_after (bare_of file limits.harts) (progress e plan) ≡ drop 1 (from_live (lives e.watched.machine) (drop e.turn plan))
   turns_are = ap (λ (s : World). drop 1 (from_live (lives s) (drop e.turn plan))) (sym ready.between.follows.machine)

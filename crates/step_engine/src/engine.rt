@@ -12,7 +12,7 @@ ghost use Rattle.report_text.specs.Offers.{is_met};
 ghost use Rattle.step_engine.specs.Rounds.{Told};
 ghost use Rattle.step_engine.specs.Run.{IsRun};
 
-use crate::turns::{add_live, due_turn, end_in, keep_live, next_live};
+use crate::turns::{add_live, due_turn, keep_live, next_live};
 use elf_image::Image;
 use guest_code::Code;
 use report_text::{Asked, Reporter, Suppressions};
@@ -183,7 +183,7 @@ impl Engine {
         let mut live = Vec::new(alloc);
         add_live(&self.watched.machine, &mut live, 0)?;
         'rounds: loop {
-            if let Some(end) = end_in(&self.watched.machine, live.as_slice()) {
+            if let Some(end) = self.watched.machine.ended() {
                 return Ok(end);
             }
             let Some(due) = self.due(limits, plan, live.as_slice()) else {

@@ -121,7 +121,10 @@ fn a_slot_goes_on_to_the_next_thread(rt: HostRuntime) -> Result<(), Fail> {
     release(&mut desk, 1, &mut first);
     end(&mut desk, 1, &first);
     assert_eq!(rt; join(&mut desk, 1, &mut main), Joined::Done);
+    assert_eq!(rt; (desk.living(), desk.lives_if_made(2)), (1, None));
     assert_eq!(rt; create(&mut desk, 0, &main), Created::Thread(2));
+    assert_eq!(rt; (desk.living(), desk.lives_if_made(2)), (2, Some(true)));
+    assert_eq!(rt; desk.lives_if_made(1), Some(false));
     assert_eq!(rt; attach(&mut desk, 2, &mut second), Attached::Slot(1, 4));
     assert_eq!(rt;
         (

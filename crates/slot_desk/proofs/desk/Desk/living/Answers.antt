@@ -1,0 +1,10 @@
+use Rattle.std.proofs.Common.{◌∙◌}
+use Rattle.slot_desk.specs.contracts.desk.Desk.{the_view}
+use Rattle.slot_desk.proofs.LivesLaws.{living_counted}
+use Rattle.slot_desk.proofs.desk.Desk.living.Goals as goal
+
+pub returns-clause-counted : goal.returns-clause-counted
+returns-clause-counted c = rw (← c.self.view_is) (c.self.invariant.0.counted ∙ living_counted (the_view c.self.inside) c.self.invariant.0.unmade)
+
+pub returns-clause-few : goal.returns-clause-few
+returns-clause-few c = rw (← c.self.view_is) c.self.invariant.0.few_live
