@@ -130,8 +130,8 @@ module _ (file : List ℕ) (limits : Limits) (plan : List Turn) (meets : Option 
     lawful = subst (IsLawful OneByOne limits plan (bare_of file limits.harts) (granule_of file)) (sym entries_are) lawful;
     whole = subst (λ (es : List Entry). IsWholeRun OneByOne limits plan (bare_of file limits.harts) es f.last) (sym entries_are) whole;
     reports = subst (λ (es : List Entry). AreReports limits (granule_address file) meets (moments es) (kept_in f)) (sym entries_are) reports;
-    races = subst (λ (es : List Entry). All (StandsForRace (granule_of file) (granule_address file) (moments es)) f.reports) (sym entries_are)
-        (races_kept limits (granule_of file) (granule_address file) (needs_slot (bare_of file limits.harts) e.entries) e.entries sound addresses meets (kept_in f) reports);
+    races = subst (λ (es : List Entry). All (StandsForRace limits.epochs (granule_of file) (granule_address file) (moments es)) f.reports) (sym entries_are)
+        (races_kept limits (granule_of file) (granule_address file) (needs_slot (bare_of file limits.harts) e.entries) e.entries sound ready.between.follows.lawful.rounds addresses meets (kept_in f) reports);
     output = output_is ∙ ap (λ (s : World). s.output) ready.between.follows.machine
         ∙ ap (λ (es : List Entry). (state_after (bare_of file limits.harts) es).output) (sym entries_are);
   }

@@ -17,10 +17,11 @@ kept_in f = record { reports = f.reports; suppressed = f.suppressed; equal = f.e
 
 -- What is kept is a run of the file by the limits and the plan, with rules that two stacks may meet. Its history is lawful and that of a whole run, which came to
 -- that last state. Its reports are those of the history, and each stands for a race: two accesses that conflict, neither
--- of which happens before the other. Its output is that of the bare machine over the history's instructions.
+-- of which happens before the other, and the first of which isn't earlier than the second. Its output is that of the bare
+-- machine over the history's instructions.
 pub record IsRun (file : List ℕ) (limits : Limits) (plan : List Turn) (meets : Option (List ℕ) → Option (List ℕ) → Bool) (f : Finished) : Type 0 where
   pub lawful : IsLawful OneByOne limits plan (bare_of file limits.harts) (granule_of file) f.history.entries
   pub whole : IsWholeRun OneByOne limits plan (bare_of file limits.harts) f.history.entries f.last
   pub reports : AreReports limits (granule_address file) meets (moments f.history.entries) (kept_in f)
-  pub races : All (StandsForRace (granule_of file) (granule_address file) (moments f.history.entries)) f.reports
+  pub races : All (StandsForRace limits.epochs (granule_of file) (granule_address file) (moments f.history.entries)) f.reports
   pub output : f.output ≡ (state_after (bare_of file limits.harts) f.history.entries).output
