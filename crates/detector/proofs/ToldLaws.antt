@@ -1,12 +1,13 @@
 -- The owner of a candidate's word, and what its trace tells.
 use Rattle.std.proofs.Common.{◌≡◌, ◌≢◌, ℕ, zero, suc, ◌+◌, ◌*◌, ◌<◌, ◌≤◌, inl, inr, Bool, true, false, cond, Option, Some, None, List, [], ◌∷◌, ◌++◌, length, get_or, refl, ap, sym, subst, ◌∙◌, arith, eq-eqb, ne_eqb, append_assoc, append-nil, length-append}
-use Rattle.std.specs.Prelude.{Ok, ◌-◌, ◌^◌, count_ones, All, map, fold}
+use Rattle.std.specs.Prelude.{Ok, ◌-◌, ◌^◌, count_ones, All, IsSome, map, fold}
 use Rattle.std.proofs.lemmas.Bool.{cases_eq, cases_lt}
 use Rattle.std.proofs.lemmas.List.{get_or_past, map-append}
 use Rattle.std.proofs.Math.Seq.{get_or-append_seam}
 use Rattle.std.specs.Int.{w8, trailing_zeros}
 use Rattle.std.specs.List.{AllZip}
 use Rattle.std.proofs.lemmas.List.Sums.{fold-append}
+use Rattle.run_record.specs.declared.entry.Label.{Label}
 use Rattle.run_record.specs.declared.entry.DeskNote.TheVariants.{Nothing, Attach, Leave}
 use Rattle.run_record.specs.declared.report.Side.{Side}
 use Rattle.run_record.specs.declared.report.KeptLock.{KeptLock}
@@ -25,7 +26,7 @@ use Rattle.elf_image.proofs.MemoryLaws.{granule_below, granule_address-of}
 use Rattle.shadow_word.specs.declared.cell.Cell.{Cell}
 use Rattle.shadow_word.specs.Cells.{cell_in, fields_of}
 use Rattle.slot_desk.specs.Desks.{DeskContents, slot_of, owner_at}
-use Rattle.trace_parts.specs.Held.{HeldTrace}
+use Rattle.trace_parts.specs.Held.{HeldTrace, has_label}
 use Rattle.trace_parts.specs.declared.restored.Restored.TheVariants.{Found, Lost}
 use Rattle.trace_parts.specs.declared.restored.Restored.{Restored}
 use Rattle.trace_parts.specs.Sought.{restored, first_held}
@@ -37,7 +38,7 @@ use Rattle.report_laws.specs.Awaited.Collects.{Begin}
 use Rattle.report_text.specs.Offers.{offers}
 use Rattle.detector.specs.Detected.{Detected, watcher_of}
 use Rattle.detector.specs.Stands.{Stands, awaited}
-use Rattle.detector.specs.Told.{CanBeTold, TellsPrevious, CanTellAll, TellsAll}
+use Rattle.detector.specs.Told.{IsOwnedBy, HasOwnerAt, CanBeSought, side_in, CanBeTold, TellsPrevious, CanTellAll, TellsAll}
 
 -- ---- who has a slot has a trace
 
@@ -141,61 +142,102 @@ module _ (granules : ℕ) (d : Detected) (one : Awaited) (from : ℕ) (leaving :
   pub word_cell : (slots_of : sid one.word < d.limits.slots) → mask one.word ≢ 0 → cell_in one.word ≡ Some (fields_of one.word)
   word_cell below some = cell_is one.word d.limits.slots some later_epoch below (s.watchers 0).in_range.few_slots
 
+-- ---- in terms of a trace
+
+abbrev label_by : Cell → Label
+label_by cell = record { sid = cell.sid; epoch = cell.epoch; era = cell.era }
+
+module _ (file : List ℕ) (trace : HeldTrace) (granule word : ℕ) (can : CanBeSought file trace granule word) where
+  pub sought_cell : (cell : Cell) (r : Option Cell) → r ≡ cell_in word → r ≡ Some cell → cell ≡ fields_of word
+  sought_cell cell r value is = let e = can.cell in cc
+
+  pub granule_there : image_of file ≡ Ok file → granule < granules_of file
+  granule_there accepted = granule_below file (8 * can.block) granule accepted can.granule_is
+
+  pub address_room : image_of file ≡ Ok file → granule_address file granule < 2 ^ 64 → granule_address file granule ≤ 2 ^ 64 - 8
+  address_room accepted fits =
+      let e : granule_address file granule ≡ block (8 * can.block) = granule_address-of file (8 * can.block) granule accepted can.granule_is in
+      omega arith
+
+  pub stands_there : (cell : Cell) (address : ℕ) → cell ≡ fields_of word → address ≡ granule_address file granule → has_label trace (label_by cell) ≡ true →
+      IsSome (first_held trace.held (label_by cell) address word)
+  stands_there cell address cell_fields address_is = rw (cell_fields, address_is) can.stands
+
+  module _ (cell : Cell) (address t : ℕ) (found : Restored) (cell_fields : cell ≡ fields_of word) (address_is : address ≡ granule_address file granule)
+      (found_is : found ≡ restored (first_held trace.held (label_by cell) address word)) where
+    found_same : found ≡ restored (first_held trace.held (label_in word) (granule_address file granule) word)
+    found_same = rw (cell_fields, address_is) at found_is
+
+    pub side_found : (place addr size : ℕ) (stack : List ℕ) (locks : List KeptLock) → found ≡ Found place addr size stack locks →
+        ◌≡◌ {A = Side} (record { tid = t; read = cell.read; atomic = cell.atomic; addr = addr; size = size; stack = Some stack; locks = locks }) (side_in file trace granule word t)
+    side_found place addr size stack locks is = step ∙ ap (previous_side (granule_address file) granule word t) found_same
+      where
+        step : ◌≡◌ {A = Side} (record { tid = t; read = cell.read; atomic = cell.atomic; addr = addr; size = size; stack = Some stack; locks = locks }) (previous_side (granule_address file) granule word t found)
+        step = rw (is, cell_fields) refl
+
+    pub side_lost : (side : Side) → found ≡ Lost →
+        side ≡ record { tid = t; read = cell.read; atomic = cell.atomic; addr = address + trailing_zeros w8 cell.mask; size = count_ones cell.mask; stack = None; locks = [] } →
+        side ≡ side_in file trace granule word t
+    side_lost side lost side_is = side_is ∙ (step ∙ ap (previous_side (granule_address file) granule word t) found_same)
+      where
+        step : ◌≡◌ {A = Side} (record { tid = t; read = cell.read; atomic = cell.atomic; addr = address + trailing_zeros w8 cell.mask; size = count_ones cell.mask; stack = None; locks = [] }) (previous_side (granule_address file) granule word t found)
+        step = rw (lost, cell_fields, address_is) refl
+
+pub owner_cell : (desk : DeskContents) (word : ℕ) → HasOwnerAt desk word → (cell : Cell) (r : Option Cell) → r ≡ cell_in word → r ≡ Some cell → cell ≡ fields_of word
+owner_cell desk word has cell r value is = let e = has.cell in cc
+
+pub owner_named : (desk : DeskContents) (word t : ℕ) (cell : Cell) (u : Option ℕ) → cell ≡ fields_of word → u ≡ owner_at (slot_of desk cell.sid).journal cell.epoch → u ≡ Some t → IsOwnedBy desk word t
+owner_named desk word t cell u cell_fields value is = sym (rw cell_fields at value) ∙ is
+
 -- ---- in terms of the premise
 
 module _ (file : List ℕ) (d : Detected) (one : Awaited) (can : CanBeTold file d one) where
-  pub cell_there : cell_in one.word ≡ Some (fields_of one.word)
+  cell_there : cell_in one.word ≡ Some (fields_of one.word)
   cell_there = word_cell (granules_of file) d one can.from can.leaving can.h can.stands can.owner can.restorable.slot can.restorable.bytes
 
-  pub known_owner : (t : ℕ) → owner_at (slot_of d.desk (sid one.word)).journal (epoch one.word) ≡ Some t → can.owner.tid ≡ t
-  known_owner t is = let e = sym (owner_is (granules_of file) d one can.from can.leaving can.h can.stands can.owner) ∙ is in cc
+  pub owner_there : (desk : DeskContents) → desk ≡ d.desk → HasOwnerAt desk one.word
+  owner_there desk same = record {
+    cell = cell_there;
+    tid = can.owner.tid;
+    owned = subst (λ (k : DeskContents). IsOwnedBy k one.word can.owner.tid) (sym same) (owner_is (granules_of file) d one can.from can.leaving can.h can.stands can.owner);
+  }
 
-  pub watched_owner : (t : ℕ) → owner_at (slot_of d.desk (sid one.word)).journal (epoch one.word) ≡ Some t → t < length d.watchers
-  watched_owner t is = subst (λ (u : ℕ). u < length d.watchers) (known_owner t is) (owner_watched (granules_of file) d one can.from can.leaving can.h can.stands can.owner)
+  module _ (desk : DeskContents) (t : ℕ) (desk_is : desk ≡ d.desk) (owned : IsOwnedBy desk one.word t) where
+    owned_here : IsOwnedBy d.desk one.word t
+    owned_here = subst (λ (k : DeskContents). IsOwnedBy k one.word t) desk_is owned
 
-  pub cell_same : (cell : Cell) (r : Option Cell) → r ≡ cell_in one.word → r ≡ Some cell → cell ≡ fields_of one.word
-  cell_same cell r value is = let e = cell_there in cc
+    known_owner : can.owner.tid ≡ t
+    known_owner = let e = sym (owner_is (granules_of file) d one can.from can.leaving can.h can.stands can.owner) ∙ owned_here in cc
 
-  pub owner_named : (desk : DeskContents) (cell : Cell) (t : ℕ) (u : Option ℕ) → cell ≡ fields_of one.word → desk ≡ d.desk →
-      u ≡ owner_at (slot_of desk cell.sid).journal cell.epoch → u ≡ Some t → owner_at (slot_of d.desk (sid one.word)).journal (epoch one.word) ≡ Some t
-  owner_named desk cell t u cell_fields desk_is value is = sym (rw (cell_fields, desk_is) at value) ∙ is
+    pub watched_owner : t < length d.watchers
+    watched_owner = subst (λ (u : ℕ). u < length d.watchers) known_owner (owner_watched (granules_of file) d one can.from can.leaving can.h can.stands can.owner)
 
-  pub granule_there : image_of file ≡ Ok file → one.granule < granules_of file
-  granule_there accepted = granule_below file (8 * can.restorable.block) one.granule accepted can.restorable.granule_is
+    module _ (trace : HeldTrace) (w : Watched) (trace_of : trace ≡ w.trace) (watcher_is : w ≡ watcher_of d t) where
+      held : trace ≡ (watcher_of d t).trace
+      held = trace_of ∙ ap (λ (x : Watched). x.trace) watcher_is
 
-  pub address_room : image_of file ≡ Ok file → granule_address file one.granule < 2 ^ 64 → granule_address file one.granule ≤ 2 ^ 64 - 8
-  address_room accepted fits =
-      let e : granule_address file one.granule ≡ block (8 * can.restorable.block) = granule_address-of file (8 * can.restorable.block) one.granule accepted can.restorable.granule_is in
-      omega arith
-
-  pub found_same : (cell : Cell) (address t : ℕ) (trace : HeldTrace) (w : Watched) (found : Restored) → cell ≡ fields_of one.word → address ≡ granule_address file one.granule → w ≡ watcher_of d t → trace ≡ w.trace →
-      found ≡ restored (first_held trace.held (record { sid = cell.sid; epoch = cell.epoch; era = cell.era }) address one.word) →
-      found ≡ restored (first_held (watcher_of d t).trace.held (label_in one.word) (granule_address file one.granule) one.word)
-  found_same cell address t trace w found cell_fields address_is watcher_is trace_is' found_is = rw (trace_is', watcher_is, cell_fields, address_is) at found_is
-
-  pub side_same : (cell : Cell) (t place addr size : ℕ) (stack : List ℕ) (locks : List KeptLock) (found : Restored) → cell ≡ fields_of one.word → found ≡ Found place addr size stack locks →
-      ◌≡◌ {A = Side} (record { tid = t; read = cell.read; atomic = cell.atomic; addr = addr; size = size; stack = Some stack; locks = locks }) (previous_side (granule_address file) one.granule one.word t found)
-  side_same cell t place addr size stack locks found cell_fields is = rw (is, cell_fields) refl
-
-  pub lost_same : (cell : Cell) (address t : ℕ) (found : Restored) (side : Side) → cell ≡ fields_of one.word → address ≡ granule_address file one.granule → found ≡ Lost →
-      side ≡ record { tid = t; read = cell.read; atomic = cell.atomic; addr = address + trailing_zeros w8 cell.mask; size = count_ones cell.mask; stack = None; locks = [] } →
-      side ≡ previous_side (granule_address file) one.granule one.word t found
-  lost_same cell address t found side cell_fields address_is lost side_is = side_is ∙ rw (lost, cell_fields, address_is) refl
-
-  -- what the owner's trace tells is what each history tells
-  pub tells : (t : ℕ) (found : Restored) (side : Side) → owner_at (slot_of d.desk (sid one.word)).journal (epoch one.word) ≡ Some t →
-      found ≡ restored (first_held (watcher_of d t).trace.held (label_in one.word) (granule_address file one.granule) one.word) →
-      side ≡ previous_side (granule_address file) one.granule one.word t found → TellsPrevious file d one side
-  tells t found side is found_is side_is from leaving h s o r =
-      let same : o.tid ≡ t = (let e = sym (owner_is (granules_of file) d one from leaving h s o) ∙ is in cc) in
-      record {
-        tid = t;
-        label_of = subst (λ (u : ℕ). IsLabelOf d.limits.epochs h u (label_in one.word)) same o.label_of;
-        trace = (watcher_of d t).trace;
-        trace_of = subst (λ (u : ℕ). IsTraceOf d.limits h u (watcher_of d u).trace) same (trace_is (granules_of file) d one from leaving h s o);
-        mine = refl;
-        previous = side_is ∙ ap (previous_side (granule_address file) one.granule one.word t) found_is;
+      pub can_seek : CanBeSought file trace one.granule one.word
+      can_seek = record {
+        block = can.restorable.block;
+        granule_is = can.restorable.granule_is;
+        cell = cell_there;
+        stands = subst (λ (x : HeldTrace). has_label x (label_in one.word) ≡ true → IsSome (first_held x.held (label_in one.word) (granule_address file one.granule) one.word)) (sym held)
+            (can.restorable.stands t (watcher_of d t).trace (subst (λ (u : ℕ). IsLabelOf d.limits.epochs can.h u (label_in one.word)) known_owner can.owner.label_of)
+            (subst (λ (u : ℕ). IsTraceOf d.limits can.h u (watcher_of d u).trace) known_owner (trace_is (granules_of file) d one can.from can.leaving can.h can.stands can.owner)));
       }
+
+      -- what the owner's trace tells is what each history tells
+      pub tells : (side : Side) → side ≡ side_in file trace one.granule one.word t → TellsPrevious file d one side
+      tells side side_is from leaving h s o r =
+          let same : o.tid ≡ t = (let e = sym (owner_is (granules_of file) d one from leaving h s o) ∙ owned_here in cc) in
+          record {
+            tid = t;
+            label_of = subst (λ (u : ℕ). IsLabelOf d.limits.epochs h u (label_in one.word)) same o.label_of;
+            trace = (watcher_of d t).trace;
+            trace_of = subst (λ (u : ℕ). IsTraceOf d.limits h u (watcher_of d u).trace) same (trace_is (granules_of file) d one from leaving h s o);
+            mine = refl;
+            previous = subst (λ (x : HeldTrace). side ≡ side_in file x one.granule one.word t) held side_is;
+          }
 
 -- ---- all that waits
 

@@ -1,15 +1,47 @@
 -- The reports of the accesses that wait, as a detector tells them.
-use Rattle.std.specs.Prelude.{◌≡◌, ◌+◌, ℕ, Bool, List, [], length, map, fold, All, Option}
+use Rattle.std.specs.Prelude.{◌≡◌, ◌+◌, ◌*◌, ℕ, Bool, true, List, [], length, map, fold, All, Option, Some, IsSome}
 use Rattle.std.specs.List.{AllZip}
 use Rattle.run_record.specs.declared.report.Report.{Report}
 use Rattle.run_record.specs.declared.report.Side.{Side}
 use Rattle.elf_image.specs.File.{granule_of, granules_of, granule_address}
 use Rattle.run_laws.specs.Moments.{Moment}
 use Rattle.run_laws.specs.Reports.{Kept, kept_after}
+use Rattle.run_laws.specs.Words.{sid, epoch, label_in}
+use Rattle.shadow_word.specs.Cells.{cell_in, fields_of}
+use Rattle.slot_desk.specs.Desks.{DeskContents, slot_of, owner_at}
+use Rattle.trace_parts.specs.Held.{HeldTrace, has_label}
+use Rattle.trace_parts.specs.Sought.{restored, first_held}
+use Rattle.report_laws.specs.Owners.{previous_side}
 use Rattle.report_laws.specs.Awaited.{Awaited, HasOwner, IsRestorable, IsToldBy}
 use Rattle.report_text.specs.Offers.{offers}
 use Rattle.detector.specs.Detected.{Detected}
 use Rattle.detector.specs.Stands.{Stands, awaited}
+
+-- The desk's journals name the thread whose label the word has.
+abbrev pub IsOwnedBy : DeskContents → ℕ → ℕ → Type 0
+IsOwnedBy desk word t = owner_at (slot_of desk (sid word)).journal (epoch word) ≡ Some t
+
+-- the word is a cell's, and its label some thread's
+pub record HasOwnerAt (desk : DeskContents) (word : ℕ) : Type 0 where
+  pub cell : cell_in word ≡ Some (fields_of word)
+  pub tid : ℕ
+  pub owned : IsOwnedBy desk word tid
+
+-- The granule is one of the file, and the word a cell's. Where the trace has the word's label, it has an access under it with
+-- the word on the granule.
+pub record CanBeSought (file : List ℕ) (trace : HeldTrace) (granule word : ℕ) : Type 0 where
+  pub block : ℕ
+  pub granule_is : granule_of file (8 * block) ≡ Some granule
+  pub cell : cell_in word ≡ Some (fields_of word)
+  pub stands :
+      has_label trace (label_in word) ≡ true →
+      IsSome (first_held trace.held (label_in word) (granule_address file granule) word)
+
+-- the access of thread t that left the word on the granule, as the trace tells it, or as far as the word does
+abbrev pub side_in : List ℕ → HeldTrace → ℕ → ℕ → ℕ → Side
+side_in file trace granule word t =
+    let address_of = granule_address file in
+    previous_side address_of granule word t (restored (first_held trace.held (label_in word) (address_of granule) word))
 
 -- A history left the detector so. In it the label of the candidate's word is a thread's and of the present era, and the
 -- word can be sought in traces.

@@ -7,7 +7,8 @@
 //! detector that stands as a history leaves it (`Stands`) stands so after one more moment, with the checks
 //! that the moment is told to have. At the end of a round `tell` offers the reports of its races to the
 //! reporter of `report_text`; each stands as the laws of `report_laws` ask for, and by `round_law` the next
-//! round begins.
+//! round begins. `find_owner` and `tell_previous` tell the earlier access of a report by a desk and a trace
+//! alone, where these stand without a detector.
 #![tactic(auto)]
 
 mod access;
@@ -17,4 +18,4 @@ mod event;
 mod previous;
 
 pub use detector::Detector;
-pub use previous::round_law;
+pub use previous::{find_owner, round_law, tell_previous};

@@ -6,7 +6,7 @@ ghost use Rattle.run_laws.specs.Moments.{Moment};
 ghost use Rattle.report_text.specs.Offers.{is_met, offers};
 ghost use Rattle.detector.specs.Detected.{Detected};
 ghost use Rattle.detector.specs.Stands.{Stands, awaited};
-ghost use Rattle.detector.specs.Told.{CanBeTold, TellsPrevious, CanTellAll, TellsAll};
+ghost use Rattle.detector.specs.Told.{IsOwnedBy, HasOwnerAt, CanBeSought, side_in, CanBeTold, TellsPrevious, CanTellAll, TellsAll};
 
 use crate::Detector;
 use elf_image::Image;
@@ -14,8 +14,9 @@ use race_core::Candidate;
 use report_text::{Asked, Reporter, Suppressions};
 use run_record::{Label, Locks, NoMemory, Side};
 use shadow_word::{Cell, unpack};
+use slot_desk::Desk;
 use std::alloc::Global;
-use trace_parts::Restored;
+use trace_parts::{Restored, Trace};
 
 /// What a cell of a granule tells of the access that left it, whose stack is lost.
 fn lost_side(alloc: Global, address: u64, tid: u32, cell: Cell) -> Side
@@ -40,6 +41,63 @@ pub fn round_law()
         Stands granules limits from leaving h d → Stands granules limits (length h) leaving h (record d { waiting = [] }) }
 {}
 
+/// The thread whose label the candidate's word has, by the desk's journals.
+pub fn find_owner(desk: &Desk, candidate: &Candidate) -> u32
+    requires { HasOwnerAt desk.now candidate.now.word }
+    ensures { IsOwnedBy desk.now candidate.now.word result }
+{
+    let Some(cell) = unpack(candidate.word) else {
+        unreachable!()
+    };
+    let Some(owner) = desk.owner_of(cell.sid, cell.epoch) else {
+        unreachable!()
+    };
+    owner
+}
+
+/// The access that left the candidate's word, as the trace of the word's owner tells it, or as far as
+/// the word does where the trace holds it no more. `NoMemory` comes only where memory runs out.
+pub fn tell_previous(
+    alloc: Global,
+    image: &Image<'_>,
+    owner: u32,
+    trace: &Trace,
+    candidate: &Candidate,
+) -> Result<Side, NoMemory>
+    requires { CanBeSought image.now trace.now candidate.now.granule candidate.now.word }
+    ensures { IfOk result (λ side. side
+        ≡ side_in image.now trace.now candidate.now.granule candidate.now.word owner) }
+{
+    image.accepted();
+    let Some(cell) = unpack(candidate.word) else {
+        unreachable!()
+    };
+    let label = Label {
+        sid: cell.sid,
+        epoch: cell.epoch,
+        era: cell.era,
+    };
+    let address = image.granule_address(candidate.granule);
+    match trace.restore(label, address, candidate.word)? {
+        Restored::Found {
+            place: _,
+            addr,
+            size,
+            stack,
+            locks,
+        } => Ok(Side {
+            tid: owner,
+            read: cell.read,
+            atomic: cell.atomic,
+            addr,
+            size,
+            stack: Some(stack),
+            locks,
+        }),
+        Restored::Lost => Ok(lost_side(alloc, address, owner, cell)),
+    }
+}
+
 impl Detector {
     /// The access that left the candidate's word, as its thread's trace tells it, or as far as the
     /// word does where the trace holds it no more.
@@ -52,38 +110,10 @@ impl Detector {
         requires { CanBeTold image.now self.now (awaited candidate.now) }
         ensures { IfOk result (TellsPrevious image.now self.now (awaited candidate.now)) }
     {
-        image.accepted();
-        let Some(cell) = unpack(candidate.word) else {
-            unreachable!()
-        };
-        let Some(owner) = self.desk.owner_of(cell.sid, cell.epoch) else {
-            unreachable!()
-        };
-        let label = Label {
-            sid: cell.sid,
-            epoch: cell.epoch,
-            era: cell.era,
-        };
-        let address = image.granule_address(candidate.granule);
+        let owner = find_owner(&self.desk, candidate);
         let trace = self.watcher(owner).trace();
-        match trace.restore(label, address, candidate.word)? {
-            Restored::Found {
-                place: _,
-                addr,
-                size,
-                stack,
-                locks,
-            } => Ok(Side {
-                tid: owner,
-                read: cell.read,
-                atomic: cell.atomic,
-                addr,
-                size,
-                stack: Some(stack),
-                locks,
-            }),
-            Restored::Lost => Ok(lost_side(alloc, address, owner, cell)),
-        }
+        let side = tell_previous(alloc, image, owner, trace, candidate)?;
+        Ok(side)
     }
 
     // The accesses that wait, in order. None waits afterwards.

@@ -9,10 +9,11 @@ use Rattle.run_record.specs.declared.entry.Check.{Check}
 use Rattle.run_record.specs.declared.limits.Limits.{Limits}
 use Rattle.run_record.specs.declared.report.Report.{Report}
 use Rattle.run_record.specs.declared.report.Side.{Side}
-use Rattle.run_laws.specs.Moments.{moments}
+use Rattle.run_laws.specs.Moments.{moments, RoundsNeverFall}
 use Rattle.run_laws.specs.Candidates.{IsCandidate}
 use Rattle.run_laws.specs.Reports.{IsReport, Finds, Start, Quiet, Race, is_equal, Kept, kept_after, AreReports}
 use Rattle.run_laws.proofs.ReportLaw.{conflicts}
+use Rattle.run_laws.proofs.UnorderedLaw.{not_earlier}
 use Rattle.report_laws.specs.Sound.{IsSound, TellsAddresses}
 use Rattle.report_laws.specs.Races.{StandsForRace}
 use Rattle.report_laws.proofs.OwnedLabels.{first_has}
@@ -25,8 +26,12 @@ either false side whole lost e = inr e
 apart : (granule_of : ℕ → Option ℕ) (address_of : ℕ → ℕ) → TellsAddresses granule_of address_of → (b c k : ℕ) → granule_of (8 * b) ≡ Some k → granule_of (8 * c) ≡ Some k → b ≡ c
 apart granule_of address_of tells b c k p q = let x = tells b k p in let y = tells c k q in omega arith
 
-module _ (limits : Limits) (granule_of : ℕ → Option ℕ) (address_of : ℕ → ℕ) (needs_slot : ℕ → Bool) (entries : List Entry) (sound : IsSound limits granule_of needs_slot entries) (addresses : TellsAddresses granule_of address_of) where
-  race_of : (n : ℕ) (c : Check) (w : ℕ) (report : Report) → IsCandidate limits.epochs (moments entries) n c w → IsReport limits address_of (moments entries) n c.granule w report → StandsForRace granule_of address_of (moments entries) report
+module _ (limits : Limits) (granule_of : ℕ → Option ℕ) (address_of : ℕ → ℕ) (needs_slot : ℕ → Bool) (entries : List Entry) (sound : IsSound limits granule_of needs_slot entries) (rise : RoundsNeverFall entries)
+    (addresses : TellsAddresses granule_of address_of) where
+  abbrev Stands : Report → Type 0
+  Stands = StandsForRace limits.epochs granule_of address_of (moments entries)
+
+  race_of : (n : ℕ) (c : Check) (w : ℕ) (report : Report) → IsCandidate limits.epochs (moments entries) n c w → IsReport limits address_of (moments entries) n c.granule w report → Stands report
   race_of n c w report k r =
       let m =
       conflicts limits granule_of needs_slot entries sound.few_slots sound.some_epochs sound.few_epochs (apart granule_of address_of addresses) sound.notes sound.checks sound.stores sound.loads n c w k r.first r.first_is r.tid r.other
@@ -50,14 +55,17 @@ module _ (limits : Limits) (granule_of : ℕ → Option ℕ) (address_of : ℕ �
         conflict = m.0;
         not_after = m.1;
         not_before = m.2;
+        not_earlier =
+            not_earlier limits granule_of needs_slot entries sound.few_slots sound.some_epochs sound.few_epochs
+            sound.notes sound.checks sound.stores sound.loads n c w k r.first r.first_is rise;
       }
 
-  pub races_of : (n : ℕ) (found : List Report) → Finds limits address_of (moments entries) n found → All (StandsForRace granule_of address_of (moments entries)) found
-  races_of _ _ Start = All-nil (StandsForRace granule_of address_of (moments entries))
+  pub races_of : (n : ℕ) (found : List Report) → Finds limits address_of (moments entries) n found → All Stands found
+  races_of _ _ Start = All-nil Stands
   races_of _ _ (Quiet {n = n} {found = f} a none) = races_of n f a
   races_of _ _ (Race {n = n} {found = f} c w r a k told) =
-      All-append (StandsForRace granule_of address_of (moments entries)) f (r ∷ []) (races_of n f a)
-      (All-cons (StandsForRace granule_of address_of (moments entries)) r [] (race_of n c w r k told) (All-nil (StandsForRace granule_of address_of (moments entries))))
+      All-append Stands f (r ∷ []) (races_of n f a)
+      (All-cons Stands r [] (race_of n c w r k told) (All-nil Stands))
 
   -- what is kept is among what is found
   kept_among : (P : Report → Type 0) (meets : Option (List ℕ) → Option (List ℕ) → Bool) (k : Kept) (found : List Report) → All P k.reports → All P found → All P (fold (kept_after meets) k found).reports
@@ -69,7 +77,7 @@ module _ (limits : Limits) (granule_of : ℕ → Option ℕ) (address_of : ℕ �
       step false true = a
       step false false = All-append P k.reports (r ∷ []) a (All-cons P r [] (All-head P r found b) (All-nil P))
 
-  pub races_kept : (meets : Option (List ℕ) → Option (List ℕ) → Bool) (kept : Kept) → AreReports limits address_of meets (moments entries) kept → All (StandsForRace granule_of address_of (moments entries)) kept.reports
+  pub races_kept : (meets : Option (List ℕ) → Option (List ℕ) → Bool) (kept : Kept) → AreReports limits address_of meets (moments entries) kept → All Stands kept.reports
   races_kept meets kept are =
-      subst (λ (k : Kept). All (StandsForRace granule_of address_of (moments entries)) k.reports) (sym are.kept_is)
-      (kept_among (StandsForRace granule_of address_of (moments entries)) meets (record { reports = []; suppressed = 0; equal = 0 }) are.found (All-nil (StandsForRace granule_of address_of (moments entries))) (races_of (length (moments entries)) are.found are.found_all))
+      subst (λ (k : Kept). All Stands k.reports) (sym are.kept_is)
+      (kept_among Stands meets (record { reports = []; suppressed = 0; equal = 0 }) are.found (All-nil Stands) (races_of (length (moments entries)) are.found are.found_all))

@@ -4,12 +4,15 @@ use Rattle.run_record.specs.declared.report.Report.{Report}
 use Rattle.run_laws.specs.Moments.{Moment, moment_at, items}
 use Rattle.run_laws.specs.HappensBefore.{HappensBefore}
 use Rattle.run_laws.specs.Accesses.{Access, Conflict}
+use Rattle.run_laws.specs.Loads.{IsEarlier}
 use Rattle.run_laws.specs.Candidates.{has_word}
 use Rattle.run_laws.specs.Reports.{MakesAccess, told_side, lost_side}
 
 -- The report tells of a race: two accesses of the history that conflict, neither of which happens before the
--- other. The one is told with its stack, and the other too, or as far as its word on a granule tells.
-pub record StandsForRace (granule_of : ℕ → Option ℕ) (address_of : ℕ → ℕ) (h : List Moment) (report : Report) : Type 0 where
+-- other. The first isn't earlier than the second, neither by its round nor in slot order; g is the greatest
+-- epoch. The first is told with its stack, and the second too, or as far as its word on a granule tells.
+pub record StandsForRace
+    (g : ℕ) (granule_of : ℕ → Option ℕ) (address_of : ℕ → ℕ) (h : List Moment) (report : Report) : Type 0 where
   pub position : ℕ
   pub tid : ℕ
   pub access : Access
@@ -26,3 +29,4 @@ pub record StandsForRace (granule_of : ℕ → Option ℕ) (address_of : ℕ →
   pub conflict : Conflict granule_of tid access other other_access
   pub not_after : HappensBefore (items h) other_position position → ⊥
   pub not_before : HappensBefore (items h) position other_position → ⊥
+  pub not_earlier : IsEarlier g h position other_position → ⊥

@@ -5,7 +5,7 @@ ghost use Rattle.std.specs.List.{AllZip};
 ghost use Rattle.run_record.specs.declared.entry.Entry.{Entry};
 ghost use Rattle.run_record.specs.declared.limits.Limits.{Limits};
 ghost use Rattle.run_record.specs.declared.report.Report.{Report};
-ghost use Rattle.run_laws.specs.Moments.{moments, moment_at};
+ghost use Rattle.run_laws.specs.Moments.{moments, moment_at, RoundsNeverFall};
 ghost use Rattle.run_laws.specs.Window.{round_end};
 ghost use Rattle.run_laws.specs.Reports.{Finds, Kept, kept_after, kept_of, AreReports};
 ghost use Rattle.report_laws.specs.Sound.{IsSound, TellsAddresses};
@@ -23,21 +23,25 @@ pub fn reports_law()
         Finds limits address_of (moments entries) n (found ++ told) }
 {}
 
-/// Each report that is found stands for a race.
+/// Each report that is found stands for a race, where rounds never fall.
 pub fn stands_law()
-    ensures { (limits : Limits) (granule_of : ℕ → Option ℕ) (address_of : ℕ → ℕ) (needs_slot : ℕ → Bool) (entries : List Entry) →
-        IsSound limits granule_of needs_slot entries → TellsAddresses granule_of address_of →
-        (n : ℕ) (found : List Report) → Finds limits address_of (moments entries) n found →
-        All (StandsForRace granule_of address_of (moments entries)) found }
+    ensures { (limits : Limits) (granule_of : ℕ → Option ℕ) (address_of : ℕ → ℕ) (needs_slot : ℕ → Bool)
+        (entries : List Entry)
+        → IsSound limits granule_of needs_slot entries → RoundsNeverFall entries
+        → TellsAddresses granule_of address_of
+        → (n : ℕ) (found : List Report) → Finds limits address_of (moments entries) n found
+        → All (StandsForRace limits.epochs granule_of address_of (moments entries)) found }
 {}
 
 /// So do the reports that are kept.
 pub fn races_law()
-    ensures { (limits : Limits) (granule_of : ℕ → Option ℕ) (address_of : ℕ → ℕ) (needs_slot : ℕ → Bool) (entries : List Entry) →
-        IsSound limits granule_of needs_slot entries → TellsAddresses granule_of address_of →
-        (meets : Option (List ℕ) → Option (List ℕ) → Bool) (kept : Kept) →
-        AreReports limits address_of meets (moments entries) kept →
-        All (StandsForRace granule_of address_of (moments entries)) kept.reports }
+    ensures { (limits : Limits) (granule_of : ℕ → Option ℕ) (address_of : ℕ → ℕ) (needs_slot : ℕ → Bool)
+        (entries : List Entry)
+        → IsSound limits granule_of needs_slot entries → RoundsNeverFall entries
+        → TellsAddresses granule_of address_of
+        → (meets : Option (List ℕ) → Option (List ℕ) → Bool) (kept : Kept)
+        → AreReports limits address_of meets (moments entries) kept
+        → All (StandsForRace limits.epochs granule_of address_of (moments entries)) kept.reports }
 {}
 
 /// One more report is one more step of what is kept.

@@ -5,13 +5,14 @@ use Rattle.std.specs.declared.string.String.{String}
 use Rattle.std.specs.declared.alloc.Global.{Global}
 use Rattle.std.specs.Option.{option_map}
 use Rattle.run_record.specs.declared.finished.Finished.{Finished}
+use Rattle.run_laws.specs.Faithful.{Mode, OneByOne}
 use Rattle.command_words.specs.declared.request.UsageFault.{UsageFault}
 use Rattle.command_words.specs.Requests.{RequestText, TaskText, run, step, generate, request_of}
 use Rattle.suppress_rules.specs.declared.rule.Rule.{Rule}
 use Rattle.suppress_rules.specs.RuleFile.{rules_of}
 use Rattle.report_text.specs.Status.{status_of}
-use Rattle.step_engine.specs.Run.{IsRun}
-use Rattle.tsanrun_cli.specs.Ends.{served, one_by_one, IsExecutable, AreRules, rules_file, suppressed_by, IsDone}
+use Rattle.whole_runs.specs.Run.{IsRun}
+use Rattle.tsanrun_cli.specs.Ends.{served, one_by_one, mode_of, IsExecutable, AreRules, rules_file, suppressed_by, IsDone}
 use Rattle.tsanrun_cli.specs.Texts.{out_text, err_text}
 use Rattle.tsanrun_cli.specs.Work.{call_of}
 use Rattle.same_run.proofs.Runs.{same_run}
@@ -27,8 +28,18 @@ was_asked (Ok r) request q = by_task r.task refl
     by_task (step file) t = sym (ap (one_by_one r) t) ∙ q
     by_task (generate seed size) t = sym (ap (one_by_one r) t) ∙ q
 
+-- and its threads are stepped one at a time
+stepped : (asked : Result RequestText UsageFault) (request : RequestText) → served asked ≡ Ok request → mode_of request.task ≡ OneByOne
+stepped asked request q = by_task request.task refl
+  where
+    by_task : (task : TaskText) → request.task ≡ task → mode_of request.task ≡ OneByOne
+    by_task (run file) t =
+        absurd (let z = sym (ap (one_by_one request) t) ∙ (sym (ap served (was_asked asked request q)) ∙ q) in cc)
+    by_task (step file) t = ap mode_of t
+    by_task (generate seed size) t = ap mode_of t
+
 same_executable : (files : List (List ℕ × List ℕ)) (task : TaskText) (bytes other : List ℕ) → IsExecutable (Some files) task bytes → IsExecutable (Some files) task other → bytes ≡ other
-same_executable files (run file) bytes other a b = absurd a
+same_executable files (run file) bytes other a b = let z = sym a.has ∙ b.has in cc
 same_executable files (step file) bytes other a b = let z = sym a.has ∙ b.has in cc
 same_executable files (generate seed size) bytes other a b = a ∙ sym b
 
@@ -63,12 +74,20 @@ module _ (words : List (String Global)) (before after reads more : ℕ) (failed 
       some : 1 ≤ a.request.limits.harts
       some = some_harts (map string_bytes words) a.request (was_asked (request_of (map string_bytes words)) a.request a.run.serves.asked)
 
+      one_at_a_time : mode_of a.request.task ≡ OneByOne
+      one_at_a_time = stepped (request_of (map string_bytes words)) a.request a.run.serves.asked
+
+      others_run : IsRun (mode_of a.request.task) a.bytes a.request.limits a.request.plan (suppressed_by a.run.rules a.bytes) other
+      others_run =
+          subst (λ (r : RequestText). IsRun (mode_of r.task) a.bytes r.limits r.plan (suppressed_by a.run.rules a.bytes) other) (sym request)
+          (subst (λ (bs : List ℕ). IsRun (mode_of b.request.task) bs b.request.limits b.request.plan (suppressed_by a.run.rules bs) other) (sym bytes)
+          (subst (λ (rs : List Rule). IsRun (mode_of b.request.task) b.bytes b.request.limits b.request.plan (suppressed_by rs b.bytes) other) (sym rules) b.run.is_run))
+
       finished : f ≡ other
       finished =
-          same_run a.bytes a.request.limits a.request.plan (suppressed_by a.run.rules a.bytes) f other some a.run.is_run
-          (subst (λ (r : RequestText). IsRun a.bytes r.limits r.plan (suppressed_by a.run.rules a.bytes) other) (sym request)
-          (subst (λ (bs : List ℕ). IsRun bs b.request.limits b.request.plan (suppressed_by a.run.rules bs) other) (sym bytes)
-          (subst (λ (rs : List Rule). IsRun b.bytes b.request.limits b.request.plan (suppressed_by rs b.bytes) other) (sym rules) b.run.is_run)))
+          same_run a.bytes a.request.limits a.request.plan (suppressed_by a.run.rules a.bytes) f other some
+          (subst (λ (m : Mode). IsRun m a.bytes a.request.limits a.request.plan (suppressed_by a.run.rules a.bytes) f) one_at_a_time a.run.is_run)
+          (subst (λ (m : Mode). IsRun m a.bytes a.request.limits a.request.plan (suppressed_by a.run.rules a.bytes) other) one_at_a_time others_run)
 
       texts : (write : TaskText → List ℕ → Finished → List ℕ) → write a.request.task a.bytes f ≡ write b.request.task b.bytes other
       texts write =

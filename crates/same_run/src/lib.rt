@@ -1,7 +1,7 @@
 //! What is run decides the run: an executable, limits, a plan and rules have one, and so have words and files.
 //!
 //! `one_history` shows that two lawful histories of one machine are equal; `machine_laws` knows the machine of an
-//! executable file, `step_engine` what a run of it is (`IsRun`), and `tsanrun_cli` what a call of the tool leaves
+//! executable file, `whole_runs` what a run of it is (`IsRun`), and `tsanrun_cli` what a call of the tool leaves
 //! (`IsDone`). The functions do nothing: the contract of each is a law. `machine_law` says that the machine of a file is
 //! one of which `one_history` tells, `same_run_law` that two runs are the same in all that they leave, and
 //! `same_call_law` that two calls keep the same run and write the same bytes.
@@ -13,9 +13,10 @@ ghost use Rattle.std.specs.declared.alloc.Global.{Global};
 ghost use Rattle.run_record.specs.declared.limits.Limits.{Limits};
 ghost use Rattle.run_record.specs.declared.plan.Turn.{Turn};
 ghost use Rattle.run_record.specs.declared.finished.Finished.{Finished};
+ghost use Rattle.run_laws.specs.Faithful.{OneByOne};
 ghost use Rattle.machine_laws.specs.Machine.{bare_of};
 ghost use Rattle.one_history.specs.Reached.{LeaveLabels};
-ghost use Rattle.step_engine.specs.Run.{IsRun};
+ghost use Rattle.whole_runs.specs.Run.{IsRun};
 ghost use Rattle.tsanrun_cli.specs.Ends.{IsDone};
 ghost use Rattle.tsanrun_cli.specs.Work.{call_of};
 
@@ -24,11 +25,11 @@ pub fn machine_law()
     ensures { (file : List ℕ) (harts : ℕ) → 1 ≤ harts → LeaveLabels (bare_of file harts) }
 {}
 
-/// Two runs of an executable by the same limits, plan and rules are the same: in history, reports, counts, output and
-/// last state.
+/// Two runs of an executable, of one thread at a time, by the same limits, plan and rules are the same: in history,
+/// reports, counts, output and last state.
 pub fn same_run_law()
     ensures { (file : List ℕ) (limits : Limits) (plan : List Turn) (meets : Option (List ℕ) → Option (List ℕ) → Bool) (f other : Finished) → 1 ≤ limits.harts →
-        IsRun file limits plan meets f → IsRun file limits plan meets other → f ≡ other }
+        IsRun OneByOne file limits plan meets f → IsRun OneByOne file limits plan meets other → f ≡ other }
 {}
 
 /// Two calls that are done, with the same words and with the same bytes on their sinks before, keep the same run, and

@@ -28,9 +28,10 @@ use Rattle.report_text.specs.Offers.{offers}
 use Rattle.thread_turns.specs.declared.watched.WatchedMachine.{WatchedMachine}
 use Rattle.thread_turns.specs.declared.watched.TurnEnd.{TurnEnd}
 use Rattle.thread_turns.specs.Follows.{Follows, moments_by, IsStarved, TakesTurn}
+use Rattle.whole_runs.specs.Told.{Told}
 use Rattle.step_engine.specs.declared.engine.Engine.{Engine}
 use Rattle.step_engine.specs.declared.engine.Due as chosen
-use Rattle.step_engine.specs.Rounds.{Told, IsBetween, IsAtEnd}
+use Rattle.step_engine.specs.Rounds.{IsBetween, IsAtEnd}
 use Rattle.step_engine.specs.Progress.{progress, due_of, CanRound, none_free, IsReady, MakesTurns, MakesRound}
 use Rattle.step_engine.proofs.RoundLaws.{at_begin, told_all, next_round, next_era}
 

@@ -37,7 +37,8 @@ use Rattle.detector.proofs.NoteLaws.{stands_era}
 use Rattle.detector.proofs.ToldLaws.{dropped}
 use Rattle.thread_turns.specs.declared.watched.WatchedMachine.{WatchedMachine}
 use Rattle.thread_turns.specs.Follows.{Follows, moments_by}
-use Rattle.step_engine.specs.Rounds.{Told, IsBetween, IsAtEnd}
+use Rattle.whole_runs.specs.Told.{Told}
+use Rattle.step_engine.specs.Rounds.{IsBetween, IsAtEnd}
 use Rattle.step_engine.proofs.AlikeStands.{stands_alike}
 use Rattle.step_engine.proofs.RoundMoments.{rest, cut, rest_in_era, no_era_since, era_kept}
 

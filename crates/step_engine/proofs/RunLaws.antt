@@ -1,6 +1,6 @@
 -- A whole run: from its start, round by round, to its end.
-use Rattle.std.proofs.Common.{◌≡◌, ℕ, ◌*◌, ◌<◌, Bool, true, Option, Some, None, Ok, List, [], ◌∷◌, length, drop, refl, ap, ◌∙◌, sym, subst, arith, inl, inr}
-use Rattle.std.specs.Prelude.{nat_lt, option_to_list, All}
+use Rattle.std.proofs.Common.{◌≡◌, ℕ, ◌<◌, Bool, true, Option, Some, None, Ok, List, [], ◌∷◌, length, drop, refl, ap, ◌∙◌, sym, subst, arith, inl, inr}
+use Rattle.std.specs.Prelude.{nat_lt, option_to_list}
 use Rattle.std.specs.List.{list_any}
 use Rattle.std.proofs.lemmas.Bool.{lt-ltb}
 use Rattle.run_record.specs.declared.limits.Limits.{Limits}
@@ -9,21 +9,19 @@ use Rattle.run_record.specs.declared.entry.Entry.{Entry}
 use Rattle.run_record.specs.declared.finished.Finished.{Finished}
 use Rattle.run_record.specs.declared.finished.GuestEnd.{GuestEnd}
 use Rattle.run_record.specs.declared.finished.GuestEnd.TheVariants.{Budget}
-use Rattle.elf_image.specs.File.{image_of, granule_of, granule_address}
-use Rattle.elf_image.proofs.MemoryLaws.{granule_address-of}
+use Rattle.elf_image.specs.File.{image_of, granule_of}
 use Rattle.bare_machine.specs.World.{World, lives}
 use Rattle.bare_machine.specs.Step.{end_of}
-use Rattle.run_laws.specs.Moments.{moments}
 use Rattle.run_laws.specs.Faithful.{OneByOne, state_after, needs_slot}
 use Rattle.run_laws.specs.Lawful.{IsLawful, IsWholeRun}
-use Rattle.run_laws.specs.Reports.{Kept, AreReports}
+use Rattle.run_laws.specs.Reports.{Kept}
 use Rattle.run_laws.specs.Rounds.{Due, due_turn, dues, from_live, end_in, turns_after, Reaches, Round, Ends}
 use Rattle.turn_laws.proofs.WholeLaw.{lawful-whole}
-use Rattle.report_laws.specs.Sound.{IsSound, TellsAddresses}
-use Rattle.report_laws.specs.Races.{StandsForRace}
-use Rattle.report_laws.proofs.RaceReports.{races_kept}
 use Rattle.machine_laws.specs.Machine.{bare_of}
 use Rattle.machine_laws.proofs.EndLaw as ends
+use Rattle.whole_runs.specs.Told.{Told}
+use Rattle.whole_runs.specs.Run.{kept_in, IsRun}
+use Rattle.whole_runs.proofs.Runs.{is_run as run_of}
 use Rattle.thread_turns.specs.declared.watched.WatchedMachine.{WatchedMachine}
 use Rattle.thread_turns.specs.Ranges.{AreLimits}
 use Rattle.thread_turns.specs.Follows.{Follows}
@@ -31,8 +29,6 @@ use Rattle.step_engine.specs.declared.engine.Engine.{Engine}
 use Rattle.step_engine.specs.declared.engine.Due as chosen
 use Rattle.step_engine.specs.Live.{live_of}
 use Rattle.step_engine.specs.Progress.{progress, due_of, IsReady, MakesRound}
-use Rattle.step_engine.specs.Rounds.{Told}
-use Rattle.step_engine.specs.Run.{kept_in, IsRun}
 use Rattle.step_engine.proofs.RoundLaws.{at_start}
 use Rattle.step_engine.proofs.EngineLaws.{at_most_one, length_in}
 
@@ -110,30 +106,13 @@ module _ (file : List ℕ) (limits : Limits) (plan : List Turn) (meets : Option 
   lawful : IsLawful OneByOne limits plan (bare_of file limits.harts) (granule_of file) e.entries
   lawful = lawful-whole limits plan (bare_of file limits.harts) (granule_of file) e.entries f.last ready.between.follows.lawful whole
 
-  sound : IsSound limits (granule_of file) (needs_slot (bare_of file limits.harts) e.entries) e.entries
-  sound = record {
-    few_slots = ready.between.follows.limits_are.few_slots;
-    some_epochs = let two = ready.between.follows.limits_are.some_epochs in omega arith;
-    few_epochs = ready.between.follows.limits_are.few_epochs;
-    notes = lawful.notes;
-    checks = lawful.checks;
-    stores = lawful.stores;
-    loads = lawful.loads;
-  }
-
-  addresses : TellsAddresses (granule_of file) (granule_address file)
-  addresses b g q = let y = granule_address-of file (8 * b) g accepted q in omega arith
-
-  reports : AreReports limits (granule_address file) meets (moments e.entries) (kept_in f)
-  reports = record { found = told.found; found_all = told.finds; kept_is = kept_is ∙ told.kept }
-
-  pub is_run : IsRun file limits plan meets f
-  is_run = record {
-    lawful = subst (IsLawful OneByOne limits plan (bare_of file limits.harts) (granule_of file)) (sym entries_are) lawful;
-    whole = subst (λ (es : List Entry). IsWholeRun OneByOne limits plan (bare_of file limits.harts) es f.last) (sym entries_are) whole;
-    reports = subst (λ (es : List Entry). AreReports limits (granule_address file) meets (moments es) (kept_in f)) (sym entries_are) reports;
-    races = subst (λ (es : List Entry). All (StandsForRace (granule_of file) (granule_address file) (moments es)) f.reports) (sym entries_are)
-        (races_kept limits (granule_of file) (granule_address file) (needs_slot (bare_of file limits.harts) e.entries) e.entries sound addresses meets (kept_in f) reports);
-    output = output_is ∙ ap (λ (s : World). s.output) ready.between.follows.machine
-        ∙ ap (λ (es : List Entry). (state_after (bare_of file limits.harts) es).output) (sym entries_are);
-  }
+  pub is_run : IsRun OneByOne file limits plan meets f
+  is_run =
+      let ranges = ready.between.follows.limits_are in
+      let some = ranges.some_epochs in
+      run_of OneByOne file limits plan meets f ranges.few_slots (omega arith) ranges.few_epochs accepted
+      (subst (IsLawful OneByOne limits plan (bare_of file limits.harts) (granule_of file)) (sym entries_are) lawful)
+      (subst (λ (es : List Entry). IsWholeRun OneByOne limits plan (bare_of file limits.harts) es f.last) (sym entries_are) whole)
+      (subst (λ (es : List Entry). Told meets file limits es (kept_in f)) (sym entries_are) (subst (Told meets file limits e.entries) (sym kept_is) told))
+      (output_is ∙ ap (λ (s : World). s.output) ready.between.follows.machine
+      ∙ ap (λ (es : List Entry). (state_after (bare_of file limits.harts) es).output) (sym entries_are))

@@ -9,8 +9,8 @@ ghost use Rattle.thread_turns.specs.Ranges.{AreLimits};
 ghost use Rattle.step_engine.specs.Live.{live_of};
 ghost use Rattle.step_engine.specs.Progress.{progress, due_of, limits_of, CanRound, MakesTurns, MakesRound, IsReady};
 ghost use Rattle.report_text.specs.Offers.{is_met};
-ghost use Rattle.step_engine.specs.Rounds.{Told};
-ghost use Rattle.step_engine.specs.Run.{IsRun};
+ghost use Rattle.whole_runs.specs.Told.{Told};
+ghost use Rattle.whole_runs.specs.Run.{IsRun};
 
 use crate::turns::{add_live, due_turn, keep_live, next_live};
 use elf_image::Image;
@@ -209,7 +209,7 @@ pub fn run_plan<S: Suppressions>(
     suppressions: &S,
 ) -> Result<Finished, NoMemory>
     requires { AreLimits limits.now }
-    ensures { IfOk result (IsRun image.now limits.now plan.now (is_met (S.rule_met suppressions.now))) }
+    ensures { IfOk result (IsRun OneByOne image.now limits.now plan.now (is_met (S.rule_met suppressions.now))) }
 {
     image.accepted();
     let mut engine = Engine::new(alloc, image, limits)?;

@@ -16,7 +16,8 @@ use Rattle.suppress_rules.specs.RuleFile.{rules_of}
 use Rattle.suppress_rules.specs.Stacks.{first_met, places_of}
 use Rattle.report_text.specs.Offers.{is_met}
 use Rattle.report_text.specs.Status.{status_of}
-use Rattle.step_engine.specs.Run.{IsRun}
+use Rattle.run_laws.specs.Faithful.{Mode, OneByOne, AtOnce}
+use Rattle.whole_runs.specs.Run.{IsRun}
 use Rattle.run_record.specs.declared.finished.Finished.{Finished}
 use Rattle.tsanrun_cli.specs.declared.ended.End.{End}
 use Rattle.tsanrun_cli.specs.declared.ended.End.TheVariants.{Done, Usage, Elf, Rules, FileTooLong, ReadFault, WriteFault, NoMemory}
@@ -60,28 +61,40 @@ pub record HasLongFile (told : Option (List (List ℕ × List ℕ))) (name : Lis
   pub has : HasFile told name bytes
   pub passes : IfSome told (λ files. file_limit < length bytes)
 
--- the words ask to run that file, one thread at a time
-pub record AsksToStep (call : Call) (request : RequestText) (file : List ℕ) : Type 0 where
+-- the executable that a task names; a made program has no file
+abbrev pub named_executable : TaskText → Option (List ℕ)
+named_executable (run file) = Some file
+named_executable (step file) = Some file
+named_executable (generate seed size) = None
+
+-- the words ask to run that file, with its threads at once or one at a time
+pub record AsksToExecute (call : Call) (request : RequestText) (file : List ℕ) : Type 0 where
   pub asked : call.asked ≡ Ok request
-  pub task : request.task ≡ step file
+  pub names : named_executable request.task ≡ Some file
 
 -- they do, and the file is an executable that the loader accepts
-pub record StepsAccepted (call : Call) (request : RequestText) (file bytes : List ℕ) : Type 0 where
-  pub asks : AsksToStep call request file
+pub record ExecutesAccepted (call : Call) (request : RequestText) (file bytes : List ℕ) : Type 0 where
+  pub asks : AsksToExecute call request file
   pub executable : HasShortFile call.told file bytes
   pub accepted : image_of bytes ≡ Ok bytes
 
 -- ---- what a call runs
 
+-- whether a task runs the threads at once, or one at a time
+abbrev pub mode_of : TaskText → Mode
+mode_of (run file) = AtOnce
+mode_of (step file) = OneByOne
+mode_of (generate seed size) = OneByOne
+
 -- the executable of a task: the named file's bytes, or those of the made program
 abbrev pub IsExecutable : Option (List (List ℕ × List ℕ)) → TaskText → List ℕ → Type 0
-IsExecutable told (run file) bytes = ⊥
+IsExecutable told (run file) bytes = HasShortFile told file bytes
 IsExecutable told (step file) bytes = HasShortFile told file bytes
 IsExecutable told (generate seed size) bytes = bytes ≡ program seed size
 
 -- the name of the file of rules that a task reads: a made program is run without rules
 abbrev pub rules_file : TaskText → Option (List ℕ) → Option (List ℕ)
-rules_file (run file) name = None
+rules_file (run file) name = name
 rules_file (step file) name = name
 rules_file (generate seed size) name = None
 
@@ -101,18 +114,18 @@ pub record Serves (call : Call) (request : RequestText) (bytes : List ℕ) (rule
 abbrev pub suppressed_by : List Rule → List ℕ → Option (List ℕ) → Option (List ℕ) → Bool
 suppressed_by rules bytes = is_met (λ mine previous. first_met rules (frame_in (tables_of bytes)) (places_of mine) (places_of previous))
 
--- What is kept is a run that the call serves, by its limits and its plan. Each of its reports stands for a race.
+-- What is kept is a run that the call serves, in its mode, by its limits and its plan. Each of its reports stands for a race.
 pub record IsRunOf (call : Call) (request : RequestText) (bytes : List ℕ) (f : Finished) : Type 0 where
   pub rules : List Rule
   pub serves : Serves call request bytes rules
-  pub is_run : IsRun bytes request.limits request.plan (suppressed_by rules bytes) f
+  pub is_run : IsRun (mode_of request.task) bytes request.limits request.plan (suppressed_by rules bytes) f
 
 -- ---- why a call ends so
 
 pub record HasElfFault (call : Call) (fault : ElfFault) : Type 0 where
   pub request : RequestText
   pub file : List ℕ
-  pub asks : AsksToStep call request file
+  pub asks : AsksToExecute call request file
   pub bytes : List ℕ
   pub executable : HasShortFile call.told file bytes
   pub refused : image_of bytes ≡ Err fault
@@ -121,7 +134,7 @@ pub record HasElfFault (call : Call) (fault : ElfFault) : Type 0 where
 pub record HasLongExecutable (call : Call) : Type 0 where
   pub request : RequestText
   pub file : List ℕ
-  pub asks : AsksToStep call request file
+  pub asks : AsksToExecute call request file
   pub long : HasLongFile call.told file
 
 -- the executable is accepted, and the file of rules is too long
@@ -129,7 +142,7 @@ pub record HasLongRules (call : Call) : Type 0 where
   pub request : RequestText
   pub file : List ℕ
   pub bytes : List ℕ
-  pub steps : StepsAccepted call request file bytes
+  pub executes : ExecutesAccepted call request file bytes
   pub name : List ℕ
   pub named : request.suppressions ≡ Some name
   pub long : HasLongFile call.told name
@@ -139,7 +152,7 @@ pub record HasRuleFault (call : Call) (fault : RuleFault) : Type 0 where
   pub request : RequestText
   pub file : List ℕ
   pub bytes : List ℕ
-  pub steps : StepsAccepted call request file bytes
+  pub executes : ExecutesAccepted call request file bytes
   pub name : List ℕ
   pub named : request.suppressions ≡ Some name
   pub text : List ℕ
@@ -150,7 +163,7 @@ pub record HasRuleFault (call : Call) (fault : RuleFault) : Type 0 where
 pub record HasUnreadExecutable (call : Call) : Type 0 where
   pub request : RequestText
   pub file : List ℕ
-  pub asks : AsksToStep call request file
+  pub asks : AsksToExecute call request file
   pub failed : call.failed ≡ file
 
 -- the executable is accepted, and the last read that failed was of the file of rules
@@ -158,7 +171,7 @@ pub record HasUnreadRules (call : Call) : Type 0 where
   pub request : RequestText
   pub file : List ℕ
   pub bytes : List ℕ
-  pub steps : StepsAccepted call request file bytes
+  pub executes : ExecutesAccepted call request file bytes
   pub named : request.suppressions ≡ Some call.failed
 
 -- a read failed that had its turn
@@ -258,7 +271,7 @@ abbrev pub end_by_executable : Option End → List ℕ → Option End
 end_by_executable after bytes = if nat_lt file_limit (length bytes) then Some FileTooLong else image_end after (image_of bytes)
 
 abbrev pub end_by_task : List (List ℕ × List ℕ) → Option (List ℕ) → TaskText → Option End
-end_by_task files rules (run file) = Some (Usage usage.Command)
+end_by_task files rules (run file) = option_and_then (end_by_executable (end_by_rules_file files rules)) (file_named file files)
 end_by_task files rules (step file) = option_and_then (end_by_executable (end_by_rules_file files rules)) (file_named file files)
 end_by_task files rules (generate seed size) = Some Done
 

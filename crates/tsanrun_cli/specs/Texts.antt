@@ -20,7 +20,7 @@ made_line seed size bytes = codes "gen: seed " ++ (decimal seed ++ (codes ", siz
 -- what stands before the last line: for a file the text of each report in order, with the names that the executable's tables
 -- tell, and for a made program its line
 abbrev pub before_summary : TaskText → List ℕ → Finished → List ℕ
-before_summary (run file) bytes f = []
+before_summary (run file) bytes f = flat_map (report_text (frame_in (tables_of bytes))) f.reports
 before_summary (step file) bytes f = flat_map (report_text (frame_in (tables_of bytes))) f.reports
 before_summary (generate seed size) bytes f = made_line seed size (length bytes)
 

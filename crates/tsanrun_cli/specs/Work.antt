@@ -8,11 +8,11 @@ use Rattle.tool_ports.specs.Ports.{Rose}
 use Rattle.command_words.specs.Requests.{RequestText, request_of}
 use Rattle.suppress_rules.specs.declared.rule.Rule.{Rule}
 use Rattle.suppress_rules.specs.RuleFile.{rules_of}
-use Rattle.step_engine.specs.Run.{IsRun}
+use Rattle.whole_runs.specs.Run.{IsRun}
 use Rattle.tsanrun_cli.specs.declared.work.Told.{Told}
 use Rattle.tsanrun_cli.specs.declared.ended.End.{End}
 use Rattle.tsanrun_cli.specs.declared.ended.End.TheVariants.{Done, Usage, Elf, Rules, FileTooLong, ReadFault, WriteFault, NoMemory}
-use Rattle.tsanrun_cli.specs.Ends.{Call, served, HasShortFile, HasLongFile, AreRules, IsRunOf, suppressed_by}
+use Rattle.tsanrun_cli.specs.Ends.{Call, served, HasShortFile, HasLongFile, AreRules, IsRunOf, mode_of, suppressed_by}
 use Rattle.tsanrun_cli.specs.Texts.{text_of, is_made}
 
 abbrev pub call_of : List (String Global) → Option (List (List ℕ × List ℕ)) → ℕ → ℕ → List ℕ → Call
@@ -43,7 +43,7 @@ pub record HasRun (call : Call) (t : Told) : Type 0 where
 
 -- the run of an executable by the request, and what tells of it
 pub record IsTold (request : RequestText) (bytes : List ℕ) (rules : List Rule) (t : Told) : Type 0 where
-  pub run : IsRun bytes request.limits request.plan (suppressed_by rules bytes) t.finished
+  pub run : IsRun (mode_of request.task) bytes request.limits request.plan (suppressed_by rules bytes) t.finished
   pub texts_are : flat_map bytes_of t.texts.items ≡ text_of request.task bytes t.finished
   pub made_is : t.made ≡ is_made request.task
 

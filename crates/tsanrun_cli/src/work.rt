@@ -5,7 +5,8 @@ ghost use Rattle.elf_image.specs.File.{image_of};
 ghost use Rattle.command_words.specs.Requests.{request_text, step as asks_step, generate as asks_generate};
 ghost use Rattle.gen_program.specs.Program.{program};
 ghost use Rattle.symbol_lines.specs.Frames.{tables_of};
-ghost use Rattle.step_engine.specs.Run.{IsRun};
+ghost use Rattle.whole_runs.specs.Run.{IsRun};
+ghost use Rattle.run_laws.specs.Faithful.{OneByOne};
 ghost use Rattle.thread_turns.specs.Ranges.{AreLimits};
 ghost use Rattle.tsanrun_cli.specs.Ends.{Refuses, suppressed_by};
 ghost use Rattle.tsanrun_cli.specs.Work.{HasRun, IsTold, IsRead, AreRulesRead, call_of, asking};
@@ -120,7 +121,7 @@ fn run_named(
 ) -> Result<Finished, NoMemory>
     requires limits { AreLimits request.now.limits }
     requires names { names.now ≡ tables_of image.now }
-    ensures { IfOk result (IsRun image.now request.now.limits request.now.plan (suppressed_by rules.now image.now)) }
+    ensures { IfOk result (IsRun OneByOne image.now request.now.limits request.now.plan (suppressed_by rules.now image.now)) }
 {
     let suppressions = NamedRules { rules, names };
     run_plan(alloc, image, &request.limits, &request.plan, &suppressions)

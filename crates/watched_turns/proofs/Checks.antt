@@ -1,24 +1,26 @@
 -- The checks that an event tells are those of its access.
-use Rattle.std.proofs.Common.{◌≡◌, ℕ, ◌+◌, suc, Bool, true, false, cond, List, [], ◌∷◌, ◌++◌, length, Option, Some, None, refl, sym, ap, ap₂, subst, ◌∙◌}
+use Rattle.std.proofs.Common.{◌≡◌, ℕ, ◌+◌, Bool, true, false, cond, List, [], ◌∷◌, ◌++◌, length, Option, Some, None, refl, sym, ap, ap₂, subst, ◌∙◌}
 use Rattle.std.specs.Prelude.{map, find, ◌%◌, option_map}
 use Rattle.std.specs.List.{All, AllZip, flat_map}
 use Rattle.std.proofs.lemmas.List.{map-append}
 use Rattle.std.proofs.lemmas.List.Elements.{All-nil, All-cons}
-use Rattle.run_record.specs.declared.event.Event.{Event}
 use Rattle.run_record.specs.declared.entry.Check.{Check}
 use Rattle.run_record.specs.declared.entry.Label.{Label}
+use Rattle.run_record.specs.declared.report.KeptLock.{KeptLock}
 use Rattle.run_laws.specs.Moments.{Moment, moment_at, items}
-use Rattle.run_laws.specs.Accesses.{Access, access_of, Part, parts_of}
+use Rattle.run_laws.specs.Accesses.{Access, Part, parts_of}
 use Rattle.run_laws.specs.Labels.{label_of}
 use Rattle.run_laws.specs.Clocks.{clocks}
+use Rattle.run_laws.specs.Stacks.{frames, kept_locks}
 use Rattle.run_laws.specs.Words.{word_of, cell_for}
 use Rattle.run_laws.specs.Window.{trace_before}
 use Rattle.run_laws.specs.Checks.{ChecksPart, AreChecks, StoresRightly}
 use Rattle.run_laws.specs.Candidates.{is_race, loaded_by}
 use Rattle.elf_image.specs.File.{granule_of}
 use Rattle.watched_turns.specs.Checking.{Checked, checked_of, check_of, four, checks_from, checks_of, loaded_in, race_in}
-use Rattle.watched_turns.specs.Turns.{IsLabelled}
-use Rattle.watched_turns.specs.Along.{race_by_clock}
+use Rattle.watched_turns.specs.Watch.{Watch}
+use Rattle.watched_turns.specs.Turns.{IsLabelled, raced_by}
+use Rattle.watched_turns.specs.Along.{HasWatch, race_by_clock, raced_at}
 
 -- two checks that differ at most in the place of their access
 module _ (g : ℕ) (h : List Moment) (n t : ℕ) (label : Label) (labelled : label_of g (items h) n t ≡ Some label) (turn : ℕ) (turn_is : turn ≡ length (trace_before g (items h) n t) % 4) (a : Access) (loads : ℕ → ℕ → ℕ) where
@@ -99,10 +101,22 @@ all_loaded : (cs : List Check) → map plain_of (flat_map (λ (c : Check). map (
 all_loaded [] = refl
 all_loaded (c ∷ cs) = map-append plain_of (map (λ (w : ℕ). (c, w)) c.cells) (flat_map (λ (c : Check). map (λ (w : ℕ). (c, w)) c.cells) cs) ∙ ap₂ (λ (xs ys : List (Checked × ℕ)). xs ++ ys) (one_loaded c c.cells) (all_loaded cs)
 
-pub race_right : (g : ℕ) (h : List Moment) (n t : ℕ) (clock : ℕ → ℕ) (checks : List Checked) → clock ≡ (clocks g (items h) n).thread t → map checked_of (moment_at h n).checks ≡ checks
+race_right : (g : ℕ) (h : List Moment) (n t : ℕ) (clock : ℕ → ℕ) (checks : List Checked) → clock ≡ (clocks g (items h) n).thread t → map checked_of (moment_at h n).checks ≡ checks
     → race_in clock checks ≡ option_map plain_of (race_by_clock g h n t)
 race_right g h n t clock checks same e =
     ap (λ (k : ℕ → ℕ). race_in k checks) same
     ∙ (ap (race_in ((clocks g (items h) n).thread t)) (sym e)
     ∙ (ap (find (λ (l : Checked × ℕ). is_race ((clocks g (items h) n).thread t) l.0.word l.1)) (sym (all_loaded (moment_at h n).checks))
     ∙ find_map plain_of (λ (l : Checked × ℕ). is_race ((clocks g (items h) n).thread t) l.0.word l.1) (loaded_by (moment_at h n))))
+
+-- the stack and the locks that the thread keeps are those of the history
+with_side : (h : List Moment) (n t : ℕ) (w : Watch) → w.frames ≡ frames h n t → w.locks ≡ kept_locks h n t →
+    (o : Option (Check × ℕ)) → option_map (raced_by w) (option_map plain_of o) ≡ option_map (raced_at h n t) o
+with_side h n t w f k None = refl
+with_side h n t w f k (Some l) = ap₂ (λ (fs : List ℕ) (ls : List KeptLock). Some (record { check = checked_of l.0; word = l.1; frames = fs; locks = ls })) f k
+
+pub raced_right : (g : ℕ) (h : List Moment) (n t : ℕ) (w : Watch) (clock : ℕ → ℕ) (checks : List Checked) → HasWatch g h n t w
+    → clock ≡ (clocks g (items h) n).thread t → map checked_of (moment_at h n).checks ≡ checks
+    → option_map (raced_by w) (race_in clock checks) ≡ option_map (raced_at h n t) (race_by_clock g h n t)
+raced_right g h n t w clock checks k same e =
+    ap (option_map (raced_by w)) (race_right g h n t clock checks same e) ∙ with_side h n t w k.frames k.locks (race_by_clock g h n t)

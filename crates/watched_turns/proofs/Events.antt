@@ -1,5 +1,5 @@
 -- Events of one instruction, and the beginnings of entries, in a history.
-use Rattle.std.proofs.Common.{◌≡◌, ◌≢◌, ℕ, ◌+◌, suc, Bool, true, false, cond, List, [], ◌∷◌, ◌++◌, length, Option, Some, None, refl, sym, ap, ap₂, subst, ◌∙◌, arith, eq-eqb, ne_eqb}
+use Rattle.std.proofs.Common.{◌≡◌, ◌≢◌, ℕ, ◌+◌, suc, Bool, cond, List, [], ◌∷◌, ◌++◌, length, Option, Some, None, refl, sym, ap, ap₂, subst, ◌∙◌, arith, eq-eqb, ne_eqb}
 use Rattle.std.specs.Prelude.{map, fold, ◌==◌, ◌%◌, option_map, option_to_list}
 use mathlib.Core.Path.{fun_ext}
 use Rattle.run_record.specs.declared.event.Event.{Event}
@@ -10,7 +10,7 @@ use Rattle.run_laws.specs.Moments.{Item, Does, Notes, NewEra, Moment, items}
 use Rattle.run_laws.specs.Accesses.{access_of}
 use Rattle.run_laws.specs.Clocks.{clocks}
 use Rattle.run_laws.specs.Labels.{raises, label_of}
-use Rattle.run_laws.specs.Stacks.{event_by, frames, frames_after, kept_locks, locks_after}
+use Rattle.run_laws.specs.Stacks.{event_by, frames_after, locks_after}
 use Rattle.run_laws.specs.Window.{TraceEvent, Labelled, Traced, is_traced, trace_before, traced_by}
 use Rattle.turn_orders.specs.Machine.{Call, State, but, next, single, singles}
 use Rattle.turn_orders.proofs.Functions.{but_here, but_each, but_same, but_twice}
@@ -21,9 +21,9 @@ use Rattle.place_clocks.proofs.Along.{turns_hold}
 use Rattle.watched_turns.specs.Watch.{Watch, traced, watch_after, watch_noted, watch_along}
 use Rattle.watched_turns.specs.Checking.{Loads}
 use Rattle.watched_turns.specs.Turns.{Told, unchecked, event_told, events_told, AreLabelled}
-use Rattle.watched_turns.specs.Along.{StandsAt, StandFrom, IsRightEvent, AreRight, HasWatch}
+use Rattle.watched_turns.specs.Along.{StandFrom, AreRight, HasWatch}
 use Rattle.watched_turns.proofs.Histories.{append_nil, frames_next, locks_next}
-use Rattle.watched_turns.proofs.Checks.{checks_right, stores_right, race_right}
+use Rattle.watched_turns.proofs.Checks.{checks_right, stores_right, raced_right}
 
 module _ (g : ℕ) (h : List Moment) (n : ℕ) where
   -- one item more, of which no more comes than this
@@ -139,7 +139,7 @@ module _ (file : List ℕ) (g slots : ℕ) (h : List Moment) (t : ℕ) where
           record {
             checks = checks_right file g h n t (length w.trace % 4) turn (loads i) o.label (access_of e) label labelled.0 stand.0.checks;
             stores = stores_right file g h n t (length w.trace % 4) turn (loads i) o.label (access_of e) label stand.0.checks;
-            race_is = race_right g h n t o.clock (event_told file t (loads i) o w e).checks clock stand.0.checks;
+            race_is = raced_right g h n t w o.clock (event_told file t (loads i) o w e).checks (subst (HasWatch g h n t) mw (kept t)) clock stand.0.checks;
           },
           tt,
         )

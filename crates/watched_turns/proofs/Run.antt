@@ -1,5 +1,5 @@
 -- Calls one after another, and eras.
-use Rattle.std.proofs.Common.{◌≡◌, ◌+◌, ℕ, suc, List, [], ◌∷◌, ◌++◌, length, refl, sym, ap, subst, ◌∙◌, arith, length-append}
+use Rattle.std.proofs.Common.{◌≡◌, ◌+◌, ℕ, suc, List, [], ◌∷◌, ◌++◌, length, refl, sym, subst, arith, length-append}
 use Rattle.std.specs.Prelude.{map, Ok}
 use Rattle.elf_image.specs.File.{image_of}
 use Rattle.run_laws.specs.Moments.{Item, Moment, NewEra, items}
@@ -13,7 +13,7 @@ use Rattle.joint_turns.proofs.Run as joint_run
 use Rattle.watched_turns.specs.Turns.{Local, Act, Told, watched_turn, joint_of, joint_call, first_state, era_after}
 use Rattle.watched_turns.specs.Along.{StandFrom, AreRight, IsWatched, ArePlaced, all_of, items_told, world_after}
 use Rattle.watched_turns.proofs.Events.{era_watches}
-use Rattle.watched_turns.proofs.Project.{item_of, items_stand, all_items, joint_tells, joint_placed}
+use Rattle.watched_turns.proofs.Project.{items_stand, all_items, joint_tells, joint_placed}
 use Rattle.watched_turns.proofs.Together.{comes_watched}
 
 pub stand_parts : (h : List Moment) (n : ℕ) (xs ys : List Told) → StandFrom h n (xs ++ ys) → StandFrom h n xs × StandFrom h (n + length xs) ys

@@ -1,11 +1,11 @@
 -- One call of the watched machine in a history.
-use Rattle.std.proofs.Common.{◌≡◌, ℕ, ◌+◌, List, [], ◌∷◌, length, Option, Some, None, refl, sym, ap, subst, ◌∙◌}
-use Rattle.std.specs.Prelude.{map, fold, Ok}
+use Rattle.std.proofs.Common.{◌≡◌, ℕ, ◌+◌, List, [], ◌∷◌, length, refl, sym, ap, subst, ◌∙◌}
+use Rattle.std.specs.Prelude.{map, Ok}
 use Rattle.std.proofs.lemmas.List.{length-map}
 use Rattle.elf_image.specs.File.{image_of}
-use Rattle.run_laws.specs.Moments.{Item, Notes, Moment, items}
+use Rattle.run_laws.specs.Moments.{Moment, items}
 use Rattle.bare_machine.specs.World.{World}
-use Rattle.turn_orders.specs.Machine.{Call, State, but, next, outcome, single}
+use Rattle.turn_orders.specs.Machine.{Call, State, next, single}
 use Rattle.turn_orders.proofs.Functions.{but_map}
 use Rattle.place_clocks.specs.Places.{desk_in}
 use Rattle.joint_turns.specs.Joint.{Value, joint_turn, attach_turn, clocks_of}
@@ -13,8 +13,8 @@ use Rattle.joint_turns.specs.Joint as joint
 use Rattle.joint_turns.specs.Along.{IsJoint}
 use Rattle.joint_turns.specs.Along as along
 use Rattle.joint_turns.proofs.Together.{comes, steps_may}
-use Rattle.watched_turns.specs.Watch.{Watch, watch_noted}
-use Rattle.watched_turns.specs.Turns.{Local, Act, attaches, steps, begins, leaves, joint_act, Told, unchecked, events_of, watched_turn, joint_of, joint_call, IsPlaced}
+use Rattle.watched_turns.specs.Watch.{Watch}
+use Rattle.watched_turns.specs.Turns.{Local, Act, attaches, steps, begins, leaves, joint_act, Told, events_of, watched_turn, joint_of, joint_call, IsPlaced}
 use Rattle.watched_turns.specs.Along.{StandFrom, AreRight, HasWatch, IsWatched}
 use Rattle.watched_turns.proofs.Project.{item_of, items_stand, turn_items, joint_next}
 use Rattle.watched_turns.proofs.Events.{Made, AreNotes, events_made, notes_made}

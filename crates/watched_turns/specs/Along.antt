@@ -12,13 +12,13 @@ use Rattle.run_laws.specs.Checks.{AreChecks, StoresRightly}
 use Rattle.run_laws.specs.Candidates.{is_race, loaded_by}
 use Rattle.elf_image.specs.File.{granule_of}
 use Rattle.bare_machine.specs.World.{World}
-use Rattle.turn_orders.specs.Machine.{Call, State, next, acts}
+use Rattle.turn_orders.specs.Machine.{Call, State, next}
 use Rattle.turn_orders.specs.LineUp.{Deed, Stamped}
 use Rattle.joint_turns.specs.Joint.{Value}
 use Rattle.joint_turns.specs.Along.{IsJoint, world_along}
 use Rattle.watched_turns.specs.Watch.{Watch}
-use Rattle.watched_turns.specs.Checking.{Checked, checked_of}
-use Rattle.watched_turns.specs.Turns.{Local, Act, Told, watched_turn, joint_of, joint_call, IsPlaced}
+use Rattle.watched_turns.specs.Checking.{checked_of}
+use Rattle.watched_turns.specs.Turns.{Local, Act, Raced, Told, watched_turn, joint_of, joint_call, IsPlaced}
 
 -- ---- what is told, beside a history
 
@@ -36,13 +36,19 @@ StandFrom h n (x ∷ xs) = StandsAt h n x × StandFrom h (suc n) xs
 abbrev pub race_by_clock : ℕ → List Moment → ℕ → ℕ → Option (Check × ℕ)
 race_by_clock g h n t = find (λ (l : Check × ℕ). is_race ((clocks g (items h) n).thread t) l.0.word l.1) (loaded_by (moment_at h n))
 
--- Thread t's event at n has its checks, each stores by the rule, and the word that races by the clock is told.
-pub record IsRightEvent (file : List ℕ) (g : ℕ) (h : List Moment) (n t : ℕ) (e : Event) (race : Option (Checked × ℕ)) : Type 0 where
+-- thread t's loaded word at position n, with its check, and the stack and the locks that the thread has there
+abbrev pub raced_at : List Moment → ℕ → ℕ → Check × ℕ → Raced
+raced_at h n t l = record { check = checked_of l.0; word = l.1; frames = frames h n t; locks = kept_locks h n t }
+
+-- Thread t's event at n has its checks, each stores by the rule, and the word that races by the clock is told with the
+-- thread's stack and locks there.
+pub record IsRightEvent
+    (file : List ℕ) (g : ℕ) (h : List Moment) (n t : ℕ) (e : Event) (race : Option Raced) : Type 0 where
   pub checks : AreChecks g (granule_of file) h n t (access_of e)
   pub stores : All StoresRightly (moment_at h n).checks
-  pub race_is : race ≡ option_map (λ (l : Check × ℕ). (checked_of l.0, l.1)) (race_by_clock g h n t)
+  pub race_is : race ≡ option_map (raced_at h n t) (race_by_clock g h n t)
 
-abbrev pub IsRight : List ℕ → ℕ → List Moment → ℕ → Item → Option (Checked × ℕ) → Type 0
+abbrev pub IsRight : List ℕ → ℕ → List Moment → ℕ → Item → Option Raced → Type 0
 IsRight file g h n (Does t e) race = IsRightEvent file g h n t e race
 IsRight file g h n _ race = Unit {0}
 

@@ -1,7 +1,8 @@
 -- The joint machine with what each thread keeps of its own events, and with the checks of its accesses.
-use Rattle.std.specs.Prelude.{◌≡◌, ℕ, ◌+◌, ◌%◌, List, [], ◌∷◌, map, fold, length, Option, Some, None}
+use Rattle.std.specs.Prelude.{ℕ, ◌+◌, ◌%◌, List, [], ◌∷◌, map, fold, length, Option, Some, None, option_map}
 use Rattle.run_record.specs.declared.event.Event.{Event}
 use Rattle.run_record.specs.declared.entry.Label.{Label}
+use Rattle.run_record.specs.declared.report.KeptLock.{KeptLock}
 use Rattle.run_laws.specs.Moments.{Item, Does}
 use Rattle.run_laws.specs.Accesses.{Access, access_of}
 use Rattle.turn_orders.specs.Machine.{Outcome, State, Turn, Call}
@@ -33,12 +34,19 @@ joint_act (steps loads) = joint.steps
 joint_act begins = joint.begins
 joint_act (leaves label) = joint.leaves label
 
+-- A loaded word that races, with its check, and with the stack and the locks that the thread has at its access.
+pub record Raced : Type 0 where
+  pub check : Checked
+  pub word : ℕ
+  pub frames : List ℕ
+  pub locks : List KeptLock
+
 -- What is told: an item of a history; where that is an access, its checks, and the first loaded word that races by the
 -- thread's clock.
 pub record Told : Type 0 where
   pub item : Item
   pub checks : List Checked
-  pub race : Option (Checked × ℕ)
+  pub race : Option Raced
 
 abbrev pub Turned : Type 0
 Turned = Outcome Local Value (List Told)
@@ -50,12 +58,16 @@ unchecked item = record { item = item; checks = []; race = None }
 abbrev pub noted_turn : Local → Outcome joint.Local Value (List Item) → Turned
 noted_turn l r = record { local = record { joint = r.local; watch = fold watch_noted l.watch r.told }; value = r.value; told = map unchecked r.told }
 
+-- the word with its check, and with what the thread keeps
+abbrev pub raced_by : Watch → Checked × ℕ → Raced
+raced_by w l = record { check = l.0; word = l.1; frames = w.frames; locks = w.locks }
+
 -- An event of a thread with this label, clock and watch. The turn of its checks is by how many events its trace was told
 -- before.
 abbrev pub event_told : List ℕ → ℕ → (ℕ → ℕ → ℕ) → Own → Watch → Event → Told
 event_told file t loads o w e =
     let checks = checks_of file (length w.trace % 4) o.label (access_of e) loads in
-    record { item = Does t e; checks = checks; race = race_in o.clock checks }
+    record { item = Does t e; checks = checks; race = option_map (raced_by w) (race_in o.clock checks) }
 
 -- and those after it, the first of which has that number
 abbrev pub events_told : List ℕ → ℕ → ℕ → Loads → ℕ → Own → clocks.Value → Watch → List Event → List Told

@@ -2,7 +2,7 @@ use Rattle.std.proofs.Common.{rules, refl, sym, ◌∙◌, ◌<◌, subst}
 use Rattle.run_record.specs.declared.limits.Limits.{Limits}
 use Rattle.report_text.specs.Offers.{is_met}
 use Rattle.step_engine.specs.Progress.{MakesRound, IsReady}
-use Rattle.step_engine.specs.Rounds.{Told}
+use Rattle.whole_runs.specs.Told.{Told}
 use Rattle.step_engine.proofs.LiveLaws.{live_again, made_more}
 use Rattle.step_engine.proofs.RunLaws.{reached-more, ends-itself, ends-undue, ends-spent}
 use Rattle.step_engine.proofs.engine.Engine.run.Goals as goal

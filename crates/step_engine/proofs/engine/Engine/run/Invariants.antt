@@ -5,7 +5,7 @@ use Rattle.machine_laws.specs.Machine.{bare_of}
 use Rattle.report_text.specs.Offers.{is_met}
 use Rattle.step_engine.specs.Progress.{progress, rounds_left, IsReady}
 use Rattle.step_engine.specs.Live.{live_of}
-use Rattle.step_engine.specs.Rounds.{Told}
+use Rattle.whole_runs.specs.Told.{Told}
 use Rattle.step_engine.proofs.engine.Engine.run.Given as goal
 
 abbrev pub invariant-rounds : goal.invariant-rounds
