@@ -42,7 +42,8 @@ pub fn edges(alloc: Global, history: &Record) -> Result<Edges, NoMemory>
 {
     let mut held = Vec::new(alloc);
     let mut found = Found::new(alloc);
-    for entry in history.entries.as_slice() {
+    let entries = history.entries.to_vec(alloc)?;
+    for entry in &entries {
         note_entry(&mut held, &mut found, entry)?;
     }
     Ok(Edges::from_vec(listed(alloc, &found)?))

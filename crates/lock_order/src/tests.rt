@@ -1,22 +1,18 @@
 // Edges of small histories, and the text of a cycle.
 use crate::{Cycle, Edge, Edges, cycle_text, edges};
-use run_record::{CheckList, DeskNote, Entries, Entry, Event, EventList, NoMemory, Record};
-use std::alloc::{AllocError, Global};
+use run_record::{DeskNote, Entries, Event, Head, NoMemory, Record};
+use std::alloc::Global;
 use std::test::Fail;
 
-fn entry(alloc: Global, tid: u32, events: &[Event]) -> Result<Entry, AllocError> {
-    let mut list = EventList::new(alloc);
-    list.extend_from_slice(events)?;
-    Ok(Entry {
+fn put(entries: &mut Entries, tid: u32, events: &[Event]) -> Result<(), NoMemory> {
+    let head = Head {
         round: 0,
         era: 0,
         stamp: 0,
         tid,
         steps: 1,
-        note: DeskNote::Nothing,
-        events: list,
-        checks: CheckList::new(alloc),
-    })
+    };
+    entries.push(head, DeskNote::Nothing, events, &[])
 }
 
 fn lock(addr: u64) -> Event {
@@ -29,17 +25,17 @@ fn unlock(addr: u64) -> Event {
 
 // Three threads take two of 8, 16 and 24 each, in a ring; the third does so after it gave another lock back, and takes
 // one to read and one again. The first pair is taken by a second thread, too.
-fn ring(alloc: Global) -> Result<Record, AllocError> {
+fn ring(alloc: Global) -> Result<Record, NoMemory> {
     let mut entries = Entries::new(alloc);
-    entries.push(entry(alloc, 2, &[lock(8), unlock(8), lock(24)])?)?;
-    entries.push(entry(alloc, 1, &[lock(8), lock(16), unlock(16), unlock(8)])?)?;
-    entries.push(entry(alloc, 0, &[lock(8), lock(16), unlock(8)])?)?;
-    entries.push(entry(alloc, 0, &[lock(24), unlock(24), unlock(16)])?)?;
+    put(&mut entries, 2, &[lock(8), unlock(8), lock(24)])?;
+    put(&mut entries, 1, &[lock(8), lock(16), unlock(16), unlock(8)])?;
+    put(&mut entries, 0, &[lock(8), lock(16), unlock(8)])?;
+    put(&mut entries, 0, &[lock(24), unlock(24), unlock(16)])?;
     let read = Event::Lock {
         addr: 8,
         read: true,
     };
-    entries.push(entry(alloc, 2, &[lock(24), read])?)?;
+    put(&mut entries, 2, &[lock(24), read])?;
     Ok(Record { entries })
 }
 

@@ -8,7 +8,6 @@ use Rattle.std.proofs.lemmas.Bool.Decides.{nat_tests}
 use Rattle.std.proofs.lemmas.Cmp.{nat_cmp_total, on_total, then_total}
 use Rattle.std.proofs.lemmas.List.Sorted.{ranks_by, sorted_far}
 use Rattle.std.proofs.lemmas.Map.Keys.{IsDistinct-from_apart, apart_from_distinct, IsDistinct-IsPermutation}
-use Rattle.std.specs.Global.{Vec}
 use Rattle.run_record.specs.declared.entry.Entry.{Entry}
 use Rattle.run_record.specs.Order.{AreOrdered, AreDistinct, entries_in}
 
@@ -45,6 +44,6 @@ AreOrdered-from_sort logged sorted distinct moved ascends =
     λ i j d p q. precedes _ _ _ _ (apart_from_distinct same_place sorted i j d still p q) (sorted_far _ order sorted ascends i j d (omega arith) q)
 
 -- where nothing is left, what is joined is all
-pub all_joined : (done all : List Entry) (left : List (Vec Entry)) → done ++ entries_in left ≡ all → length left ≡ 0 → done ≡ all
+pub all_joined : (done all : List Entry) (left : List (List Entry)) → done ++ entries_in left ≡ all → length left ≡ 0 → done ≡ all
 all_joined done all [] joined none = sym (append-nil done) ∙ joined
 all_joined done all (x ∷ xs) joined none = absurd (omega arith)

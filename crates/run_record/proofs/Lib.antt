@@ -1,1 +1,3 @@
 pub mod EntryOrder
+pub mod FlatLaws
+pub mod RoomLaws

@@ -1,6 +1,5 @@
 -- The order of a history's entries.
 use Rattle.std.specs.Prelude.{◌≡◌, ◌<◌, ◌⊎◌, List, AllPairs, flat_map}
-use Rattle.std.specs.Global.{Vec}
 use Rattle.run_record.specs.declared.entry.Entry.{Entry}
 
 -- d stands before e: it has the lesser stamp, or the same stamp and the lesser thread
@@ -16,5 +15,5 @@ abbrev pub AreDistinct : List Entry → Type 0
 AreDistinct entries = AllPairs (λ d e. ¬ ((d.stamp ≡ e.stamp) × (d.tid ≡ e.tid))) entries
 
 -- the entries of all logs, log after log
-abbrev pub entries_in : List (Vec Entry) → List Entry
-entries_in logs = flat_map (λ (log : Vec Entry). log.items) logs
+abbrev pub entries_in : List (List Entry) → List Entry
+entries_in logs = flat_map (λ (log : List Entry). log) logs

@@ -2,13 +2,17 @@
 //!
 //! Nothing stands below this crate. It holds the types that all others speak of: events, labels,
 //! checks, entries, the limits and the plan of a run, its end, and its reports. The layers above
-//! use two clauses of it: an `Items` is the list of its elements, and `push` appends one; `merge`
-//! keeps the entries of all logs and orders them by stamp and thread.
+//! use three clauses of it: an `Items` is the list of its elements, and `push` appends one; an
+//! `Entries`, which is kept flat, is the list of its entries, and `push_between` appends those of a
+//! turn; `merge` keeps the entries of all logs and orders them by stamp and thread.
 #![tactic(auto)]
 
+mod copied;
+mod entries;
 mod entry;
 mod event;
 mod finished;
+mod flat;
 mod items;
 mod limits;
 mod logs;
@@ -16,9 +20,11 @@ mod no_memory;
 mod plan;
 mod report;
 
+pub use entries::Entries;
 pub use entry::{Check, DeskNote, Entry, Label, Record};
 pub use event::{Event, Part};
 pub use finished::{Finished, GuestEnd, LastState};
+pub use flat::Head;
 pub use items::Items;
 pub use limits::Limits;
 pub use logs::merge;
@@ -31,9 +37,6 @@ pub type EventList = Items<Event>;
 
 /// The checks of an entry, in the order of its accesses and of their granules.
 pub type CheckList = Items<Check>;
-
-/// The entries of a history.
-pub type Entries = Items<Entry>;
 
 /// Code addresses: an access's place, then the frames of its stack from the innermost outwards.
 pub type Places = Items<u64>;

@@ -1,62 +1,91 @@
 // The logs of several threads as one history.
-ghost use Rattle.std.specs.Prelude.{◌≡◌, IfOk, IsPermutation};
+ghost use Rattle.std.specs.Prelude.{◌≡◌, ◌++◌, ◌∷◌, [], IfOk, OnOk, IsPermutation};
+ghost use Rattle.run_record.specs.declared.entry.DeskNote.TheVariants as DeskNote;
+ghost use Rattle.run_record.specs.Flat.{entry_of};
 ghost use Rattle.run_record.specs.Order.{AreOrdered, AreDistinct, entries_in};
 
-use crate::{Entry, Items, NoMemory, Record};
+use crate::{Entries, Entry, NoMemory, Record};
 use std::alloc::Global;
 
 /// The entries of all logs, which may have any order, in the order of their stamps, and of
 /// threads where stamps are equal. After an error the logs are lost.
-pub fn merge(alloc: Global, logs: Vec<Vec<Entry>>) -> Result<Record, NoMemory>
+pub fn merge(alloc: Global, logs: Vec<Entries>) -> Result<Record, NoMemory>
     requires { AreDistinct (entries_in logs.items) }
     ensures same { IfOk result (λ r. IsPermutation (entries_in logs.items) r.entries) }
     ensures ordered { IfOk result (λ r. AreOrdered r.entries) }
 {
     let mut entries = Vec::new(alloc);
-    for mut log in logs {
-        entries.append(&mut log)?;
+    for log in logs {
+        log.copy_to(alloc, &mut entries)?;
     }
     entries.sort_by_key(|entry| (entry.stamp, entry.tid))?;
     Ok(Record {
-        entries: Items::from_vec(entries),
+        entries: joined(alloc, &entries)?,
     })
+}
+
+/// The entries, one after another.
+fn joined(alloc: Global, entries: &[Entry]) -> Result<Entries, NoMemory>
+    ensures { IfOk result (λ joined. joined ≡ entries.now) }
+{
+    let mut joined = Entries::new(alloc);
+    for entry in entries {
+        joined.push_entry(entry)?;
+    }
+    Ok(joined)
 }
 
 #[cfg(test)]
 mod tests {
     use super::*;
-    use crate::{DeskNote, Event};
+    use crate::{Check, DeskNote, Event, Head};
     use std::test::Fail;
 
-    fn entry(alloc: Global, stamp: u64, tid: u32, event: Event) -> Result<Entry, NoMemory>
-        ensures { IfOk result (λ e. (e.stamp ≡ stamp) × (e.tid ≡ tid)) }
+    const CHECK: Check = Check {
+        event: 0,
+        granule: 7,
+        word: 5,
+        turn: 3,
+        cells: [1, 2, 3, 4],
+        stored: Some((2, 6)),
+    };
+
+    // Its one check stored another word than its own.
+    fn put(
+        log: &mut Entries,
+        stamp: u64,
+        tid: u32,
+        event: Event,
+        check: Check,
+    ) -> Result<(), NoMemory>
+        ensures { OnOk result (log.new ≡ log.old ++ entry_of
+            (record { round = 0; era = 0; stamp = stamp; tid = tid; steps = 1 })
+            DeskNote.Nothing (event ∷ []) (check ∷ []) ∷ []) }
     {
-        let mut events = Items::new(alloc);
-        events.push(event)?;
-        Ok(Entry {
+        let head = Head {
             round: 0,
             era: 0,
             stamp,
             tid,
             steps: 1,
-            note: DeskNote::Nothing,
-            events,
-            checks: Items::new(alloc),
-        })
+        };
+        log.push(head, DeskNote::Nothing, &[event], &[check])
     }
 
     // Two entries have the stamp 2, and one entry belongs between two of another log.
     #[test]
     fn three_logs(rt: HostRuntime) -> Result<(), Fail> {
         let alloc = rt.alloc();
-        let began = entry(alloc, 1, 0, Event::Begin)?;
-        let ended = entry(alloc, 3, 0, Event::End)?;
-        let main = vec![in alloc; began, ended]?;
-        let first = vec![in alloc; entry(alloc, 2, 1, Event::Leave)?]?;
-        let second = vec![in alloc; entry(alloc, 2, 2, Event::Begin)?]?;
+        let mut main = Entries::new(alloc);
+        put(&mut main, 1, 0, Event::Begin, CHECK)?;
+        put(&mut main, 3, 0, Event::End, CHECK)?;
+        let mut first = Entries::new(alloc);
+        put(&mut first, 2, 1, Event::Leave, CHECK)?;
+        let mut second = Entries::new(alloc);
+        put(&mut second, 2, 2, Event::Begin, CHECK)?;
         let merged = merge(alloc, vec![in alloc; second, main, first]?)?;
         let mut seen = Vec::new(alloc);
-        for entry in merged.entries.as_slice() {
+        for entry in merged.entries.to_vec(alloc)?.as_slice() {
             seen.push((
                 entry.stamp,
                 entry.tid,
@@ -76,7 +105,7 @@ mod tests {
     #[test]
     fn no_logs(rt: HostRuntime) -> Result<(), Fail> {
         let merged = merge(rt.alloc(), Vec::new(rt.alloc()))?;
-        assert!(rt; merged.entries.is_empty());
+        assert_eq!(rt; merged.entries.len(), 0);
         Ok(())
     }
 }

@@ -138,7 +138,7 @@ turned-more file limits old d before after w new made end s below t =
 pub makes_turns :
     (file : List ℕ) (limits : Limits) (old new : Engine) (d : chosen.Due) (made : ℕ) (starved : Bool) (end : TurnEnd) →
     CanRound old d → 0 < d.given → Turned file limits old d new.entries new.watched made starved →
-    new ≡ record old { watched = new.watched; entries = new.entries } →
+    new ≡ record old { watched = new.watched; part = new.part; entries = new.entries } →
     ((made < d.given) → starved ≡ false → lives new.watched.machine d.tid ≡ false) →
     end.steps ≡ made → ((end.starved ≡ true) → (starved ≡ true) × (made < d.given)) → (starved ≡ true → made < d.given → end.starved ≡ true) →
     MakesTurns file limits old new d end
@@ -147,7 +147,7 @@ makes_turns file limits old new d made starved end can given t rest why steps_is
     record {
       part = t.part;
       at_end = t.at_end;
-      rest = rest ∙ ap (λ (es : List Entry). record old { watched = new.watched; entries = es }) t.entries_are;
+      rest = rest ∙ ap (λ (es : List Entry). record old { watched = new.watched; part = new.part; entries = es }) t.entries_are;
       in_round = t.in_round;
       steps_are = t.steps_are ∙ sym steps_is;
       steps_by_it = t.steps_by_it ∙ sym steps_is;
@@ -297,6 +297,7 @@ pub made_round :
     (record {
       watched = record { machine = mid.watched.machine; detector = next };
       entries = old.entries ++ t.part;
+      part = mid.part;
       turn = d.turn;
       last = Some d.tid;
       round = old.round + 1;
@@ -363,6 +364,7 @@ module _ (meets : Option (List ℕ) → Option (List ℕ) → Bool) (file : List
       (record {
         watched = record { machine = mid.watched.machine; detector = next };
         entries = m.entries;
+        part = mid.part;
         turn = d.turn;
         last = Some d.tid;
         round = m.round + 1;

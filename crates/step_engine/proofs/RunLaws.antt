@@ -23,6 +23,7 @@ use Rattle.whole_runs.specs.Told.{Told}
 use Rattle.whole_runs.specs.Run.{kept_in, IsRun}
 use Rattle.whole_runs.proofs.Runs.{is_run as run_of}
 use Rattle.thread_turns.specs.declared.watched.WatchedMachine.{WatchedMachine}
+use Rattle.thread_turns.specs.declared.part.Part.{Part}
 use Rattle.thread_turns.specs.Ranges.{AreLimits}
 use Rattle.thread_turns.specs.Follows.{Follows}
 use Rattle.step_engine.specs.declared.engine.Engine.{Engine}
@@ -35,12 +36,12 @@ use Rattle.step_engine.proofs.EngineLaws.{at_most_one, length_in}
 -- ---- the start
 
 pub ready-start :
-    (file : List ℕ) (limits : Limits) (w : WatchedMachine) (entries : List Entry) (reporter : Kept) → AreLimits limits → Follows file limits 0 0 [] w → w.detector.era ≡ 0 →
+    (file : List ℕ) (limits : Limits) (w : WatchedMachine) (entries : List Entry) (part : Part) (reporter : Kept) → AreLimits limits → Follows file limits 0 0 [] w → w.detector.era ≡ 0 →
     entries ≡ [] → reporter ≡ record { reports = []; suppressed = 0; equal = 0 } →
-    IsReady file limits (record { watched = w; entries = entries; turn = 0; last = None; round = 0; last_era = 0; remaining = limits.steps; reporter = reporter })
-ready-start file limits w entries reporter are follows era none new =
-    subst (λ (es : List Entry). IsReady file limits (record { watched = w; entries = es; turn = 0; last = None; round = 0; last_era = 0; remaining = limits.steps; reporter = reporter })) (sym none)
-    (subst (λ (k : Kept). IsReady file limits (record { watched = w; entries = []; turn = 0; last = None; round = 0; last_era = 0; remaining = limits.steps; reporter = k })) (sym new)
+    IsReady file limits (record { watched = w; entries = entries; part = part; turn = 0; last = None; round = 0; last_era = 0; remaining = limits.steps; reporter = reporter })
+ready-start file limits w entries part reporter are follows era none new =
+    subst (λ (es : List Entry). IsReady file limits (record { watched = w; entries = es; part = part; turn = 0; last = None; round = 0; last_era = 0; remaining = limits.steps; reporter = reporter })) (sym none)
+    (subst (λ (k : Kept). IsReady file limits (record { watched = w; entries = []; part = part; turn = 0; last = None; round = 0; last_era = 0; remaining = limits.steps; reporter = k })) (sym new)
     (let one = at_most_one w.detector.desk.queue in
     let few = are.few_steps in
     let long = length_in 0 w.detector.era [] in

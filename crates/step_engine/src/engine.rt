@@ -20,13 +20,15 @@ use run_record::{
     Bytes, Entries, Finished, GuestEnd, LastState, Limits, NoMemory, Plan, Record, Turn,
 };
 use std::alloc::Global;
-use thread_turns::{TurnEnd, WatchedMachine};
+use thread_turns::{Part, TurnEnd, WatchedMachine};
 
 /// How far a run is.
 #[derive(Drop)]
 struct Engine {
     watched: WatchedMachine,
     entries: Entries,
+    // For the turns, one after another.
+    part: Part,
     turn: usize,
     last: Option<u32>,
     round: u32,
@@ -55,6 +57,7 @@ impl Engine {
         Ok(Engine {
             watched: WatchedMachine::new(alloc, image, limits)?,
             entries: Entries::new(alloc),
+            part: Part::new(alloc),
             turn: 0,
             last: None,
             round: 0,
@@ -113,6 +116,7 @@ impl Engine {
                 image,
                 code,
                 &mut self.entries,
+                &mut self.part,
                 self.round,
                 due.tid,
                 due.given - made,

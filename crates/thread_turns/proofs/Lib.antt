@@ -1,5 +1,6 @@
 pub mod EventLaws
 pub mod PutLaws
+pub mod PushedLaws
 pub mod InstructionLaws
 pub mod ReadyLaws
 pub mod PartLaws

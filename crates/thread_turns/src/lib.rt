@@ -12,5 +12,5 @@ mod part;
 mod turn;
 mod watched;
 
-pub(crate) use part::Part;
+pub use part::Part;
 pub use watched::{TurnEnd, WatchedMachine};

@@ -4,9 +4,10 @@ ghost use Rattle.std.specs.Prelude.{◌≡◌, [], None, false};
 use run_record::{CheckList, EventList, Label};
 use std::alloc::Global;
 
-/// The instructions that a thread has made in its turn.
+/// The instructions that a thread has made in its turn. It serves one turn after another, so that
+/// its lists keep their memory.
 #[derive(Drop)]
-pub(crate) struct Part {
+pub struct Part {
     // The label that was taken before them.
     pub(crate) attached: Option<Label>,
     pub(crate) steps: u32,
@@ -19,7 +20,8 @@ pub(crate) struct Part {
 }
 
 impl Part {
-    pub(crate) fn new(alloc: Global) -> Part
+    /// No instructions. It takes no memory.
+    pub fn new(alloc: Global) -> Part
         ensures { result ≡ record { attached = None; steps = 0; events = []; checks = []; spent = None; used = false } }
     {
         Part {
@@ -30,5 +32,17 @@ impl Part {
             spent: None,
             used: false,
         }
+    }
+
+    // No instructions of another turn.
+    pub(crate) fn clear(&mut self)
+        ensures { self.new ≡ record { attached = None; steps = 0; events = []; checks = []; spent = None; used = false } }
+    {
+        self.attached = None;
+        self.steps = 0;
+        self.events.clear();
+        self.checks.clear();
+        self.spent = None;
+        self.used = false;
     }
 }

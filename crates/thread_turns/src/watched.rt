@@ -47,15 +47,17 @@ impl WatchedMachine {
         })
     }
 
-    /// The thread makes at most so many instructions in that round, of the image and its decoded instructions, up to one that uses an object. The
-    /// entries of the turn are appended. After an error none of them is, and machine and detector are of no
-    /// more use.
+    /// The thread makes at most so many instructions in that round, of the image and its decoded
+    /// instructions, up to one that uses an object. They are gathered in the part, whatever it held,
+    /// and the entries of the turn are appended. After an error none of them is, and machine and
+    /// detector are of no more use.
     pub fn take_turn(
         &mut self,
         alloc: Global,
         image: &Image<'_>,
         code: &Code<'_>,
         entries: &mut Entries,
+        part: &mut Part,
         round: u32,
         tid: u32,
         most: u32,
@@ -71,14 +73,14 @@ impl WatchedMachine {
     {
         self.detector.resume(tid);
         let era = self.detector.era();
-        let mut part = Part::new(alloc);
-        let starved = self.run_part(alloc, image, code, tid, most, &mut part)?;
+        part.clear();
+        let starved = self.run_part(alloc, image, code, tid, most, part)?;
         let steps = part.steps;
         if steps > 0 {
             if part.spent.is_some() {
                 self.detector.leave(tid);
             }
-            push_turn(alloc, entries, round, era, tid, part)?;
+            push_turn(entries, round, era, tid, part)?;
         }
         Ok(TurnEnd { steps, starved })
     }

@@ -252,7 +252,8 @@ pub fn check_races<R: Abort>(
     finished: &Finished,
     program: &str,
 ) -> Result<usize, Fail> {
-    let made = events_in(alloc, finished.history.entries.as_slice())?;
+    let entries = finished.history.entries.to_vec(alloc)?;
+    let made = events_in(alloc, &entries)?;
     let closure = Closure::of(alloc, &made)?;
     let reports = finished.reports.as_slice();
     let mut races = 0usize;

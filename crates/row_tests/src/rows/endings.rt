@@ -154,7 +154,8 @@ fn the_history_is_kept(rt: HostRuntime) -> Result<(), Fail> {
     let Some(kept) = &answer.ended.kept else {
         panic!(rt; "nothing is kept");
     };
-    let [attached, made] = kept.history.entries.as_slice() else {
+    let entries = kept.history.entries.to_vec(alloc)?;
+    let [attached, made] = entries.as_slice() else {
         panic!(rt; "there aren't two entries");
     };
     let label = Label {

@@ -1,6 +1,6 @@
 // Runs of programs that are made from a number.
 use super::*;
-use run_record::{Entry, Event, Finished, Part};
+use run_record::{Entry, Event, Finished, NoMemory, Part};
 
 fn check_made<R: Abort>(rt: &R, alloc: Global, words: &[&str], out: &str) -> Result<(), Fail> {
     let answer = call(alloc, words, b"")?;
@@ -174,14 +174,14 @@ fn finds_race(known: &Known, entry: &Entry, place: usize) -> bool {
 }
 
 /// How many accesses of a run load a word that races.
-fn races_in(alloc: Global, finished: &Finished) -> Result<u64, AllocError> {
+fn races_in(alloc: Global, finished: &Finished) -> Result<u64, NoMemory> {
     let mut known = Known {
         threads: [[0; THREADS]; THREADS],
         created: [[0; THREADS]; THREADS],
         channels: Vec::new(alloc),
     };
     let mut races = 0u64;
-    for entry in finished.history.entries.as_slice() {
+    for entry in finished.history.entries.to_vec(alloc)?.as_slice() {
         for (place, event) in entry.events.as_slice().iter().enumerate() {
             if finds_race(&known, entry, place) {
                 races = races.saturating_add(1);

@@ -167,7 +167,7 @@ fn notes_tell_which_slots_are_taken_and_left(rt: HostRuntime) -> Result<(), Fail
         panic!(rt; "nothing is kept");
     };
     let mut notes = Vec::new(alloc);
-    for entry in finished.history.entries.as_slice() {
+    for entry in finished.history.entries.to_vec(alloc)?.as_slice() {
         match entry.note {
             DeskNote::Nothing => {}
             DeskNote::Attach(label) => notes.push((true, label.sid, label.epoch))?,
@@ -199,7 +199,7 @@ fn a_thread_without_a_slot_ends_the_era(rt: HostRuntime) -> Result<(), Fail> {
         panic!(rt; "nothing is kept");
     };
     let mut steps = 0u32;
-    for entry in finished.history.entries.as_slice() {
+    for entry in finished.history.entries.to_vec(alloc)?.as_slice() {
         if entry.tid == 1 && entry.era == 0 {
             steps = steps.saturating_add(entry.steps);
         }

@@ -1,4 +1,4 @@
-use Rattle.std.proofs.Common.{◌≡◌, ℕ, [], ◌∷◌, arith}
+use Rattle.std.proofs.Common.{◌≡◌, ℕ, List, [], ◌∷◌, ◌++◌, refl, arith}
 use Rattle.std.specs.Prelude.{All, AllPairs}
 use Rattle.std.proofs.lemmas.List.Elements.{All-cons, All-nil}
 use Rattle.std.proofs.lemmas.List.Kept.{AllPairs-cons}
@@ -21,7 +21,14 @@ distinct a b c d at_a at_b at_c at_d =
     let last : AllPairs Differ (d ∷ []) = λ i j e p q. absurd (omega arith) in
     AllPairs-cons Differ a (b ∷ c ∷ d ∷ []) with_a (AllPairs-cons Differ b (c ∷ d ∷ []) with_b (AllPairs-cons Differ c (d ∷ []) with_c last))
 
+-- the entries that were put into three logs
+distinct_logs :
+    (logs : List (List Entry)) (m n o f g s t : List Entry) (a b c d : Entry) → m ≡ [] → n ≡ m ++ b ∷ [] → o ≡ n ++ c ∷ [] → f ≡ [] → g ≡ f ++ d ∷ [] → s ≡ [] → t ≡ s ++ a ∷ [] → logs ≡ t ∷ o ∷ g ∷ [] →
+    IsAt a 2 2 → IsAt b 1 0 → IsAt c 3 0 → IsAt d 2 1 → AreDistinct (entries_in logs)
+distinct_logs logs m n o f g s t a b c d m_is n_is o_is f_is g_is s_is t_is logs_are at_a at_b at_c at_d =
+    rw (logs_are, o_is, n_is, m_is, g_is, f_is, t_is, s_is) (distinct a b c d at_a at_b at_c at_d)
+
 pub merge-requires : goal.merge-requires
 merge-requires t c =
-    let joined : entries_in c.in_ok-vec.field-0.items ≡ c.in_ok-entry-2.field-0 ∷ c.in_ok-began.began ∷ c.in_ok-ended.ended ∷ c.in_ok-entry.field-0 ∷ [] = rw (c.in_ok-vec.ensures.items, c.in_ok-second.ensures.items, c.in_ok-main.ensures.items, c.in_ok-first.ensures.items) in
-    rw joined (distinct _ _ _ _ c.in_ok-entry-2.ensures c.in_ok-began.ensures c.in_ok-ended.ensures c.in_ok-entry.ensures)
+    distinct_logs _ _ _ _ _ _ _ _ _ _ _ _ c.new-main.ensures c.in_ok-put.ensures c.in_ok-put-2.ensures c.new-first.ensures c.in_ok-put-3.ensures c.new-second.ensures c.in_ok-put-4.ensures c.in_ok-vec.ensures.items
+    (refl, refl) (refl, refl) (refl, refl) (refl, refl)

@@ -16,5 +16,5 @@ turns-preserved c =
     let turn = subst (λ (round : ℕ). TakesTurn c.args.image.now round c.args.due.tid (c.args.due.given - c.turns.made) c.turns.self.entries c.take_turn.new.entries c.turns.self.watched c.take_turn.new.self c.in_ok-end.end) round_is c.in_ok-end.ensures.turn in
     record {
       turned = turned-more _ _ _ _ _ _ _ _ _ _ so_far c.turns-test.true turn;
-      rest = ap (λ (e : Engine). record e { watched = c.take_turn.new.self; entries = c.take_turn.new.entries }) c.turns.invariant.rest;
+      rest = ap (λ (e : Engine). record e { watched = c.take_turn.new.self; part = c.take_turn.new.part; entries = c.take_turn.new.entries }) c.turns.invariant.rest;
     }

@@ -6,7 +6,7 @@ use Rattle.step_engine.proofs.engine.Engine.turns.Given as goal
 abbrev pub invariant-turns : goal.invariant-turns
 invariant-turns l = record {
   turned : Turned l.image (limits_of l.initial.self) l.initial.self l.due l.self.entries l.self.watched l.made l.starved;
-  rest : l.self ≡ record l.initial.self { watched = l.self.watched; entries = l.self.entries };
+  rest : l.self ≡ record l.initial.self { watched = l.self.watched; part = l.self.part; entries = l.self.entries };
 }
 
 abbrev pub decreases-turns : goal.decreases-turns
