@@ -1,5 +1,5 @@
 -- Instructions that touch registers alone are steps without events and objects.
-use Rattle.std.proofs.Common.{◌≡◌, ℕ, zero, suc, ◌<◌, length, true, false, List, [], ◌∷◌, ◌++◌, Option, Some, None, slice_get, slice_set, refl, ap, sym, ◌∙◌, subst, Bool, not, arith}
+use Rattle.std.proofs.Common.{◌≡◌, ℕ, zero, suc, true, false, List, [], ◌∷◌, ◌++◌, Option, Some, None, slice_get, slice_set, refl, ap, sym, ◌∙◌, subst, Bool, not, arith}
 use Rattle.std.specs.Prelude.{◌||◌, option_and_then, if◌then◌else◌}
 use Rattle.run_record.specs.declared.event.Event.TheVariants.{Begin}
 use Rattle.rv_decode.specs.declared.instr.Instr.{Instr}
@@ -14,7 +14,7 @@ use Rattle.bare_machine.specs.declared.thread.Thread.{Thread}
 use Rattle.bare_machine.specs.World.{World}
 use Rattle.bare_machine.specs.Requests.{Request, done, needs, effect_request, instruction_request, word_request, request}
 use Rattle.bare_machine.specs.Preview.{thread_needs}
-use Rattle.bare_machine.specs.Step.{Step, serve, thread_step, with_registers, first_events}
+use Rattle.bare_machine.specs.Step.{serve, thread_step, with_registers, first_events}
 use Rattle.bare_machine.specs.Locals.{IsLocalStep, AreLocalSteps, NoStep, OneMore, MakesLocals}
 use Rattle.bare_machine.proofs.StepLemmas.{within, get_set, set_set, set_same}
 

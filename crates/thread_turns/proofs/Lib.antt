@@ -5,3 +5,4 @@ pub mod ReadyLaws
 pub mod PartLaws
 pub mod EndLaws
 pub mod LocalRuns
+pub mod AdvanceLaws
