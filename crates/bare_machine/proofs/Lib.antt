@@ -2,3 +2,4 @@ pub mod StepLemmas
 pub mod CallLemmas
 pub mod Granules
 pub mod LocalLaws
+pub mod PlainLaws

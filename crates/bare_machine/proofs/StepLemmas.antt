@@ -1,12 +1,16 @@
 -- A step by the request that its thread has made.
-use Rattle.std.proofs.Common.{◌≡◌, ℕ, zero, suc, ◌<◌, length, true, false, arith, List, [], ◌∷◌, Option, Some, None, Result, Ok, Err, slice_get, slice_set, refl, ap, sym, ◌∙◌, IfOk}
+use Rattle.std.proofs.Common.{◌≡◌, ℕ, zero, suc, ◌<◌, length, true, false, Bool, not, arith, List, [], ◌∷◌, Option, Some, None, Result, Ok, Err, slice_get, slice_set, refl, ap, sym, ◌∙◌, IfOk}
+use Rattle.std.specs.Prelude.{◌||◌}
 use Rattle.std.specs.Result.{OnOk}
+use Rattle.rv_exec.specs.Registers.{Registers}
 use Rattle.bare_machine.specs.declared.thread.Thread.{Thread}
 use Rattle.bare_machine.specs.declared.request.Request.{Request}
 use Rattle.bare_machine.specs.declared.request.Request.TheVariants as kinds
 use Rattle.bare_machine.specs.World.{World, lives}
 use Rattle.bare_machine.specs.Step.{step, serve, goes_on, thread_step, with_registers}
-use Rattle.bare_machine.specs.Asked.{asked, Keeps, Asks}
+use Rattle.bare_machine.specs.Requests.{needs, request}
+use Rattle.bare_machine.specs.Preview.{thread_needs, needs_slot}
+use Rattle.bare_machine.specs.Asked.{asked, Keeps, IsUndone, Asks}
 
 -- a number that lives is that of a thread
 pub record Lives (w : World) (tid : ℕ) : Type 0 where
@@ -80,3 +84,23 @@ step_asked file old new tid t q is a =
 
 pub asked_found : (file : List ℕ) (old new : World) (tid : ℕ) (t : Thread) (q : Request) → slice_get old.threads tid ≡ Some t → (a : Asks file old new tid t q) → slice_get new.threads tid ≡ Some a.thread
 asked_found file old new tid t q is a = ap (λ (w : World). slice_get w.threads tid) a.world ∙ get_set old.threads tid a.thread (within old.threads tid t is)
+
+-- ---- a thread that may have no slot
+
+-- what needs a slot isn't done
+pub undone : (r : Registers) (q : Request) → needs (asked r q) ≡ true → IsUndone q
+undone r kinds.Done is = absurd (cc)
+undone r (kinds.Return q) is = tt
+undone r (kinds.Touch q) is = tt
+undone r (kinds.Operate q) is = tt
+undone r (kinds.Put word count) is = tt
+undone r (kinds.Create pc argument stack) is = tt
+undone r (kinds.Join of) is = tt
+undone r (kinds.Stop end) is = tt
+
+pub first_needs : (file : List ℕ) (w : World) (tid : ℕ) (t : Thread) → slice_get w.threads tid ≡ Some t → t.began ≡ false → needs_slot file w tid ≡ true
+first_needs file w tid t is began = ap (thread_needs file tid) is ∙ ap (λ (b : Bool). not b || needs (request file tid t)) began
+
+pub needs_asked : (file : List ℕ) (old new : World) (tid : ℕ) (t : Thread) (q : Request) (b : Bool) → slice_get old.threads tid ≡ Some t → (a : Asks file old new tid t q) → t.began ≡ true → b ≡ needs (asked a.thread.regs q) → needs_slot file old tid ≡ b
+needs_asked file old new tid t q b is a began needs_is =
+    ap (thread_needs file tid) is ∙ (ap (λ (x : Bool). not x || needs (request file tid t)) began ∙ (ap needs (sym a.value) ∙ sym needs_is))

@@ -9,3 +9,4 @@ pub use Rattle.elf_image.specs.File
 pub mod Preview
 pub mod Locals
 pub mod Asked
+pub mod Plain

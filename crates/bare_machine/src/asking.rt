@@ -21,6 +21,7 @@ use crate::thread::Thread;
 use crate::touch::offset;
 use elf_image::Image;
 use entry_calls::{AtomicOp, Call, atomic_answer, read_call};
+use guest_code::Code;
 use guest_memory::field;
 use run_record::GuestEnd;
 use rv_decode::{Instr, decode};
@@ -285,25 +286,43 @@ fn request_of_effect(
     }
 }
 
+// What the instruction at the pc comes to, where the table of decoded instructions doesn't tell it.
+#[tactic(auto, unfolding(crate::specs::Requests::request))]
+fn request_of_word(image: &Image<'_>, tid: u32, thread: &mut Thread) -> Request
+    ensures value { asked thread.new.regs result ≡ requests.request image.now tid thread.old }
+    ensures thread { thread.new ≡ with_registers thread.old thread.new.regs }
+    ensures sound { IsSound result }
+    ensures shallow { IsShallow result thread.old.depth }
+    ensures within { IsWithin image.now result }
+    ensures kept { Keeps result thread.old thread.new }
+{
+    let Some(word) = image.fetch(thread.regs.pc()) else {
+        return faulted(tid, thread, GuestFault::FetchOutside);
+    };
+    let Some(instr) = decode(word) else {
+        return faulted(tid, thread, GuestFault::Illegal);
+    };
+    let effect = begin(&mut thread.regs, &instr);
+    request_of_effect(image, tid, thread, &instr, effect)
+}
+
 impl Request {
     /// What the instruction at the pc of thread `tid` comes to. If it is done then, the thread has its registers. It takes no
     /// memory, and reads none that is written.
     #[tactic(auto, unfolding(crate::specs::Requests::request))]
-    pub fn of(image: &Image<'_>, tid: u32, thread: &mut Thread) -> Request
-        ensures value { asked thread.new.regs result ≡ requests.request image.now tid thread.old }
+    pub fn of(code: &Code<'_>, tid: u32, thread: &mut Thread) -> Request
+        ensures value { asked thread.new.regs result ≡ requests.request code.now tid thread.old }
         ensures thread { thread.new ≡ with_registers thread.old thread.new.regs }
         ensures sound { IsSound result }
         ensures shallow { IsShallow result thread.old.depth }
-        ensures within { IsWithin image.now result }
+        ensures within { IsWithin code.now result }
         ensures kept { Keeps result thread.old thread.new }
     {
-        let Some(word) = image.fetch(thread.regs.pc()) else {
-            return faulted(tid, thread, GuestFault::FetchOutside);
+        let image = code.image();
+        let Some(instr) = code.instr(thread.regs.pc()) else {
+            return request_of_word(image, tid, thread);
         };
-        let Some(instr) = decode(word) else {
-            return faulted(tid, thread, GuestFault::Illegal);
-        };
-        let effect = begin(&mut thread.regs, &instr);
-        request_of_effect(image, tid, thread, &instr, effect)
+        let effect = begin(&mut thread.regs, instr);
+        request_of_effect(image, tid, thread, instr, effect)
     }
 }

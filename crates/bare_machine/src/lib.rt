@@ -9,13 +9,15 @@
 mod asking;
 mod machine;
 mod memory;
+mod plain;
 mod request;
 mod serving;
 mod thread;
 pub mod touch;
 
-pub use machine::{DESK, Machine, Preview, events_before, fault_number, first_end};
+pub use machine::{DESK, Machine, Preview, Stepped, events_before, fault_number, first_end};
 pub use memory::{Memory, stripe};
+pub use plain::Plain;
 pub use request::{Operation, Request, Return, Touch};
 pub use serving::{
     answer_thread, begin_thread, depth_after, finish_call, minus, outcome, replaced, return_thread,

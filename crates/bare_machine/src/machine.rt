@@ -4,12 +4,13 @@ ghost use Rattle.bare_machine.specs.declared.thread.Thread.{Thread};
 ghost use Rattle.bare_machine.specs.World.{start, lives, HasMemory};
 ghost use Rattle.rv_exec.specs.Faults.{number_of};
 ghost use Rattle.bare_machine.specs.Preview as previews;
-ghost use Rattle.bare_machine.specs.Step.{step, first_of, first_events, end_of};
+ghost use Rattle.bare_machine.specs.Step.{first_of, first_events, end_of};
 ghost use Rattle.bare_machine.specs.Locals.{AreLocalSteps};
+ghost use Rattle.bare_machine.specs.Plain.{Steps, MakesPlain};
 ghost use Rattle.bare_machine.specs.Asked.{Asks, IsSound, IsShallow, IsWithin, IsUndone};
 
 use crate::thread::new_thread;
-use crate::{Memory, Request, Thread};
+use crate::{Memory, Plain, Request, Thread};
 use elf_image::Image;
 use entry_calls::CallEvents;
 use guest_code::Code;
@@ -79,6 +80,15 @@ pub struct Preview {
     pub uses_object: bool,
 }
 
+/// How a thread's step went.
+#[derive(Clone, Copy)]
+pub enum Stepped {
+    /// The instruction was made, and used this object, if any: a stripe of memory, or 64 for the desk.
+    Made(Option<u32>),
+    /// Only a thread with a slot makes it: nothing has changed.
+    NeedsSlot,
+}
+
 /// The events that an instruction has before its own.
 pub fn events_before(thread: &Thread) -> CallEvents
     ensures events { result ≡ first_events thread.now }
@@ -110,37 +120,63 @@ impl Machine {
     }
 
     // What the thread's next instruction comes to. If it is done then, the thread has its registers.
-    fn ask(&mut self, image: &Image<'_>, tid: u32) -> Request
+    fn ask(&mut self, code: &Code<'_>, tid: u32) -> Request
         requires { tid < length self.old.threads }
-        ensures asks { (t : Thread) → slice_get self.old.threads tid ≡ Some t → Asks image.now self.old self.new tid t result }
+        ensures asks { (t : Thread) → slice_get self.old.threads tid ≡ Some t → Asks code.now self.old self.new tid t result }
         ensures count { length self.new.threads ≡ length self.old.threads }
         ensures memory { self.new.memory ≡ self.old.memory }
         ensures sound { IsSound result }
-        ensures within { IsWithin image.now result }
+        ensures within { IsWithin code.now result }
         ensures shallow { (t : Thread) → slice_get self.new.threads tid ≡ Some t → IsShallow result t.depth }
         ensures kept { IsUndone result → self.new ≡ self.old }
     {
-        Request::of(image, tid, &mut self.threads[tid as usize])
+        Request::of(code, tid, &mut self.threads[tid as usize])
     }
 
-    /// One instruction of a thread that lives, on the image that the machine was made for. Its events come into the list. It tells
-    /// the object that it used, if any: a stripe of memory, or 64 for the desk. After an error nothing has changed.
+    // Whether a thread that lives has made an instruction.
+    fn has_begun(&self, tid: u32) -> bool
+        requires { lives self.now tid ≡ true }
+        ensures { (t : Thread) → slice_get self.now.threads tid ≡ Some t → result ≡ t.began }
+    {
+        self.threads[tid as usize].began
+    }
+
+    /// One instruction of a thread that lives, with the decoded instructions of the image that the machine was made for, if it
+    /// has a slot or needs none. Its events come into the list. After an error nothing has changed.
     pub fn step(
         &mut self,
-        image: &Image<'_>,
+        code: &Code<'_>,
         tid: u32,
+        has_slot: bool,
         events: &mut CallEvents,
-    ) -> Result<Option<u32>, NoMemory>
+    ) -> Result<Stepped, NoMemory>
         requires lives { lives self.old tid ≡ true }
-        requires memory { HasMemory image.now self.old }
+        requires memory { HasMemory code.now self.old }
         requires empty { events.old ≡ [] }
-        ensures ok { IfOk result (λ object. step image.now self.old tid ≡ record { world = self.new; events = events.new; object = object }) }
+        ensures ok { IfOk result (λ stepped. Steps code.now tid has_slot self.old stepped self.new events.new) }
         ensures err { OnErr result (self.new ≡ self.old) }
-        ensures memory { HasMemory image.now self.new }
+        ensures memory { HasMemory code.now self.new }
     {
-        let request = self.ask(image, tid);
+        if !has_slot && !self.has_begun(tid) {
+            return Ok(Stepped::NeedsSlot);
+        }
+        let request = self.ask(code, tid);
+        if !has_slot && request.needs_slot() {
+            return Ok(Stepped::NeedsSlot);
+        }
         self.serve(tid, &request, events)?;
-        Ok(request.object())
+        Ok(Stepped::Made(request.object()))
+    }
+
+    /// Makes the next instruction of a thread that lives, where it has begun and the instruction touches its registers alone, or
+    /// loads or stores a word of memory that may be written. Such a step has no events and needs no slot.
+    #[inline(always)]
+    pub fn make_plain(&mut self, code: &Code<'_>, tid: u32) -> Plain
+        requires lives { lives self.old tid ≡ true }
+        requires memory { HasMemory code.now self.old }
+        ensures { MakesPlain code.now tid self.old result self.new }
+    {
+        self.threads[tid as usize].make_plain(code, &mut self.memory)
     }
 
     /// Makes instructions of a thread that lives while they touch its registers alone, at most so many, from its second
@@ -155,13 +191,13 @@ impl Machine {
 
     /// What the next instruction of a thread that lives will need, on the image that the machine
     /// was made for. It takes no memory.
-    pub fn preview(&self, image: &Image<'_>, tid: u32) -> Preview
+    pub fn preview(&self, code: &Code<'_>, tid: u32) -> Preview
         requires { lives self.now tid ≡ true }
-        ensures needs { result.needs_slot ≡ previews.needs_slot image.now self.now tid }
-        ensures uses { result.uses_object ≡ previews.uses_object image.now self.now tid }
+        ensures needs { result.needs_slot ≡ previews.needs_slot code.now self.now tid }
+        ensures uses { result.uses_object ≡ previews.uses_object code.now self.now tid }
     {
         let mut thread = self.threads[tid as usize];
-        let request = Request::of(image, tid, &mut thread);
+        let request = Request::of(code, tid, &mut thread);
         Preview {
             needs_slot: !thread.began || request.needs_slot(),
             uses_object: request.object().is_some(),

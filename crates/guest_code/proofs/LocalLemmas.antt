@@ -1,5 +1,5 @@
 -- One more instruction that touches registers alone.
-use Rattle.std.proofs.Common.{◌≡◌, ℕ, zero, suc, ◌+◌, ◌-◌, ◌*◌, ◌/◌, ◌%◌, ◌<◌, ◌≤◌, inl, inr, List, [], ◌∷◌, ◌++◌, length, Option, Some, None, refl, ap, sym, ◌∙◌, subst, arith, add-one, slice_index_or}
+use Rattle.std.proofs.Common.{◌≡◌, ℕ, zero, suc, true, false, ◌+◌, ◌-◌, ◌*◌, ◌/◌, ◌%◌, ◌<◌, ◌≤◌, inl, inr, List, [], ◌∷◌, ◌++◌, length, Option, Some, None, refl, ap, sym, ◌∙◌, subst, arith, add-one, slice_index_or}
 use Rattle.std.specs.Prelude.{option_and_then, unwrap_or}
 use Rattle.rv_decode.specs.declared.instr.Instr.{Instr}
 use Rattle.rv_decode.specs.Table.{IsInstr}
@@ -7,7 +7,7 @@ use Rattle.rv_exec.specs.declared.exec.Effect.{Effect}
 use Rattle.rv_exec.specs.declared.exec.Effect.TheVariants.{Local}
 use Rattle.rv_exec.specs.Registers.{Registers}
 use Rattle.rv_exec.specs.Meaning.{done_by, Done}
-use Rattle.guest_code.specs.Decoded.{instr_at, breakpoint, AreDecoded}
+use Rattle.guest_code.specs.Decoded.{instr_at, breakpoint, is_break, AreDecoded, IsKnown}
 use Rattle.guest_code.specs.Locals.{registers_of, local, locals}
 
 -- a breakpoint is none
@@ -24,3 +24,17 @@ one_more file start pc at made instrs d first r q decoded pc_is above aligned is
     let i = slice_index_or instrs at d in
     let one : local file r ≡ Some q = local_by (instr_at file r.pc) i r q (decoded.instrs_at at d inside ∙ ap (λ (a : ℕ). unwrap_or (instr_at file a) breakpoint) place) done in
     ap (λ (n : ℕ). locals file n first) (add-one made) ∙ (ap (option_and_then (local file)) so_far ∙ one)
+
+-- an instruction that is no breakpoint is the file's
+known_by : (o : Option Instr) (i : Instr) → i ≡ unwrap_or o breakpoint → is_break i.op ≡ false → o ≡ Some i
+known_by None i is other = absurd (let e : true ≡ false = ap (λ (x : Instr). is_break x.op) (sym is) ∙ other in cc)
+known_by (Some x) i is other = ap Some (sym is)
+
+pub known : (file : List ℕ) (start pc at : ℕ) (instrs : List Instr) (d : Instr) → AreDecoded file start instrs → start ≤ pc → pc % 4 ≡ start % 4 → at ≡ (pc - start) / 4 → at < length instrs → is_break (slice_index_or instrs at d).op ≡ false →
+    IsKnown file pc (slice_index_or instrs at d)
+known file start pc at instrs d decoded above aligned is inside other =
+    let place : start + 4 * at ≡ pc = omega arith in
+    record {
+      instr_is = known_by (instr_at file pc) (slice_index_or instrs at d) (decoded.instrs_at at d inside ∙ ap (λ (a : ℕ). unwrap_or (instr_at file a) breakpoint) place) other;
+      is_instr = decoded.are_instrs at d inside;
+    }

@@ -1,6 +1,7 @@
 -- Decoded instructions.
-use Rattle.std.specs.Prelude.{◌≡◌, ℕ, ◌+◌, ◌*◌, ◌<◌, List, length, slice_index_or, Option, Some, None, option_and_then, unwrap_or}
+use Rattle.std.specs.Prelude.{◌≡◌, ℕ, ◌+◌, ◌*◌, ◌<◌, Bool, true, false, List, length, slice_index_or, Option, Some, None, option_and_then, unwrap_or}
 use Rattle.rv_decode.specs.declared.instr.Instr.{Instr}
+use Rattle.rv_decode.specs.declared.instr.Op.{Op}
 use Rattle.rv_decode.specs.declared.instr.Op.TheVariants.{Ebreak}
 use Rattle.rv_decode.specs.Table.{instr_of, IsInstr}
 use Rattle.elf_image.specs.File.{word_at}
@@ -20,3 +21,12 @@ decoded_of word = unwrap_or (option_and_then instr_of word) breakpoint
 pub record AreDecoded (file : List ℕ) (start : ℕ) (instrs : List Instr) : Type 0 where
   pub instrs_at : (k : ℕ) (d : Instr) → k < length instrs → slice_index_or instrs k d ≡ unwrap_or (instr_at file (start + 4 * k)) breakpoint
   pub are_instrs : (k : ℕ) (d : Instr) → k < length instrs → IsInstr (slice_index_or instrs k d)
+
+abbrev pub is_break : Op → Bool
+is_break Ebreak = true
+is_break _ = false
+
+-- the file's instruction at an address
+pub record IsKnown (file : List ℕ) (pc : ℕ) (instr : Instr) : Type 0 where
+  pub instr_is : instr_at file pc ≡ Some instr
+  pub is_instr : IsInstr instr

@@ -1,14 +1,40 @@
 // The decoded instructions of an image.
-ghost use Rattle.std.specs.Prelude.{◌≡◌, ◌≤◌, Some, IfOk};
-ghost use Rattle.guest_code.specs.Decoded.{AreDecoded};
+ghost use Rattle.std.specs.Prelude.{◌≡◌, ◌≤◌, ℕ, List, Some, IfOk, IfSome};
+ghost use Rattle.guest_code.specs.Decoded.{AreDecoded, IsKnown, is_break};
 ghost use Rattle.guest_code.specs.Locals.{locals};
 
 use crate::block::{Block, decoded_region};
 use elf_image::Image;
-use rv_decode::Instr;
+use rv_decode::{Instr, Op};
 use rv_exec::{Effect, Regs, begin};
 use std::alloc::{AllocError, Global};
 use std::marker::Model;
+
+// Whether an instruction is a breakpoint, as which the table also has words that are no instructions.
+#[inline(always)]
+fn is_break(instr: &Instr) -> bool
+    ensures { result ≡ is_break instr.now.op }
+{
+    match instr.op {
+        Op::Ebreak => true,
+        _ => false,
+    }
+}
+
+// The instruction at an address, where these from `start` on have it and it is no breakpoint.
+#[inline(always)]
+fn instr_in<'a>(start: u64, instrs: &'a [Instr], pc: u64) -> Option<&'a Instr>
+    ensures { (file : List ℕ) → AreDecoded file start instrs.now → IfSome result (λ instr. IsKnown file pc instr.now) }
+{
+    if pc % 4 != start % 4 || pc < start {
+        return None;
+    }
+    let index = ((pc - start) / 4) as usize;
+    if index >= instrs.len() || is_break(&instrs[index]) {
+        return None;
+    }
+    Some(&instrs[index])
+}
 
 /// An image and its instructions. Contracts see the bytes of the image's file.
 #[derive(Drop)]
@@ -54,6 +80,20 @@ impl<'a> Code<'a> {
         ensures { result.now ≡ self.now }
     {
         self.image
+    }
+
+    /// The instruction at an address, as it was decoded. Nothing is said where none is told: the image tells whether one stands
+    /// there that is a breakpoint.
+    #[inline(always)]
+    pub fn instr(&self, pc: u64) -> Option<&Instr>
+        ensures { IfSome result (λ instr. IsKnown self.now pc instr.now) }
+    {
+        let after = self.blocks.partition_point(|block| block.start <= pc);
+        if after == 0 {
+            return None;
+        }
+        let block = &self.blocks[after - 1];
+        instr_in(block.start, block.instrs.as_slice(), pc)
     }
 
     /// Makes the instructions from the registers' pc on, while they touch registers alone and stand in one region, at most so

@@ -10,7 +10,6 @@ ghost use Rattle.hart_steps.specs.Harts.{absent, local_of, turn, leaves, AreLoca
 ghost use Rattle.hart_steps.specs.Desks.{desk_value};
 
 use bare_machine::{Request, Thread, begin_thread, return_thread};
-use elf_image::Image;
 use entry_calls::CallEvents;
 use guest_code::Code;
 use machine_desk::MachineDesk;
@@ -46,13 +45,13 @@ impl Hart {
 
     /// What the thread's next instruction comes to. If it is done then, the thread has its registers, and else it is as it
     /// was. It takes no memory, and reads none that is written.
-    pub fn ask(&mut self, image: &Image<'_>, tid: u32) -> Request
-        ensures asks { Asks image.now tid self.old self.new result }
+    pub fn ask(&mut self, code: &Code<'_>, tid: u32) -> Request
+        ensures asks { Asks code.now tid self.old self.new result }
         ensures sound { IsSound result }
         ensures shallow { IsShallow result self.new.thread.depth }
-        ensures within { IsWithin image.now result }
+        ensures within { IsWithin code.now result }
     {
-        Request::of(image, tid, &mut self.thread)
+        Request::of(code, tid, &mut self.thread)
     }
 
     /// Whether only a thread with a slot makes this instruction, which it has asked for.

@@ -1,8 +1,9 @@
 // Turns of threads on a file of a few instructions.
 use crate::Hart;
 use bare_machine::{Request, new_thread};
-use elf_image::{Image, load};
+use elf_image::load;
 use entry_calls::CallEvents;
+use guest_code::Code;
 use guest_memory::Reservations;
 use machine_desk::MachineDesk;
 use run_record::{Event, GuestEnd, Items, NoMemory};
@@ -60,7 +61,7 @@ fn hart(value: u64) -> Hart {
 
 // What the instruction there leaves in x6. It uses the first word of its stripe.
 fn step_at_stripe(
-    image: &Image<'_>,
+    code: &Code<'_>,
     tid: u32,
     pc: u64,
     hart: &mut Hart,
@@ -68,7 +69,7 @@ fn step_at_stripe(
     reserved: &mut Reservations,
 ) -> Result<u64, NoMemory> {
     hart.thread.regs.set_pc(pc);
-    let request = hart.ask(image, tid);
+    let request = hart.ask(code, tid);
     let mut events = CallEvents::new();
     if words.len() > 0 {
         match request {
@@ -87,21 +88,15 @@ fn conditional_stores(rt: HostRuntime) -> Result<(), Fail> {
     let alloc = rt.alloc();
     let bytes = file(alloc)?;
     let image = load(alloc, bytes.as_slice())?;
+    let code = Code::new(alloc, &image)?;
     let mut words = GuestWords::from_vec([5u64, 6].to_vec(alloc)?);
     let mut reserved = Reservations::new(alloc);
     let mut one = hart(10);
     let mut other = hart(20);
-    step_at_stripe(
-        &image,
-        0,
-        LOAD_RESERVED,
-        &mut one,
-        &mut words,
-        &mut reserved,
-    )?;
-    step_at_stripe(&image, 1, STORE, &mut other, &mut words, &mut reserved)?;
+    step_at_stripe(&code, 0, LOAD_RESERVED, &mut one, &mut words, &mut reserved)?;
+    step_at_stripe(&code, 1, STORE, &mut other, &mut words, &mut reserved)?;
     let failed = step_at_stripe(
-        &image,
+        &code,
         0,
         STORE_CONDITIONAL,
         &mut one,
@@ -110,16 +105,9 @@ fn conditional_stores(rt: HostRuntime) -> Result<(), Fail> {
     )?;
     assert_eq!(rt; (failed, one.thread.regs.get(5)), (1, 5));
     assert_eq!(rt; words.as_slice(), [20, 6].as_slice());
-    step_at_stripe(
-        &image,
-        0,
-        LOAD_RESERVED,
-        &mut one,
-        &mut words,
-        &mut reserved,
-    )?;
+    step_at_stripe(&code, 0, LOAD_RESERVED, &mut one, &mut words, &mut reserved)?;
     let done = step_at_stripe(
-        &image,
+        &code,
         0,
         STORE_CONDITIONAL,
         &mut one,
@@ -133,7 +121,7 @@ fn conditional_stores(rt: HostRuntime) -> Result<(), Fail> {
 
 // The events of a call at the desk, of two threads that may live and one that does.
 fn call_at_desk(
-    image: &Image<'_>,
+    code: &Code<'_>,
     number: u64,
     arguments: [u64; 2],
     hart: &mut Hart,
@@ -143,7 +131,7 @@ fn call_at_desk(
     hart.thread.regs.set(17, number);
     hart.thread.regs.set(10, arguments[0]);
     hart.thread.regs.set(11, arguments[1]);
-    let request = hart.ask(image, 0);
+    let request = hart.ask(code, 0);
     let mut events = CallEvents::new();
     if desk.made.len() > 1024 {
         return Err(NoMemory);
@@ -165,6 +153,7 @@ fn calls_at_the_desk(rt: HostRuntime) -> Result<(), Fail> {
     let alloc = rt.alloc();
     let bytes = file(alloc)?;
     let image = load(alloc, bytes.as_slice())?;
+    let code = Code::new(alloc, &image)?;
     let mut main = hart(0);
     let mut desk = MachineDesk {
         made: Items::new(alloc),
@@ -172,7 +161,7 @@ fn calls_at_the_desk(rt: HostRuntime) -> Result<(), Fail> {
         ended: None,
     };
     desk.made.push(main.thread)?;
-    let events = call_at_desk(&image, 3, [ADD, 9], &mut main, &mut desk)?;
+    let events = call_at_desk(&code, 3, [ADD, 9], &mut main, &mut desk)?;
     assert_eq!(rt;
         events.as_slice(),
         [Event::Begin, Event::Create(1)].as_slice()
@@ -183,28 +172,28 @@ fn calls_at_the_desk(rt: HostRuntime) -> Result<(), Fail> {
         (second.thread.regs.pc(), second.thread.regs.get(10)),
         (ADD, 9)
     );
-    let events = call_at_desk(&image, 5, [1, 0], &mut main, &mut desk)?;
+    let events = call_at_desk(&code, 5, [1, 0], &mut main, &mut desk)?;
     assert_eq!(rt;
         (events.as_slice().len(), main.thread.regs.get(10)),
         (0, u64::MAX - 15)
     );
-    let _put = call_at_desk(&image, 1, [0x2_6968, 2], &mut main, &mut desk)?;
+    let _put = call_at_desk(&code, 1, [0x2_6968, 2], &mut main, &mut desk)?;
     assert_eq!(rt; desk.output.as_slice(), b"hi".as_slice());
-    let events = call_at_desk(&image, 2, [44, 0], &mut main, &mut desk)?;
+    let events = call_at_desk(&code, 2, [44, 0], &mut main, &mut desk)?;
     assert_eq!(rt; events.as_slice(), [Event::End].as_slice());
     assert_eq!(rt;
         (desk.ended, main.thread.lives),
         (Some(GuestEnd::Exit(44)), false)
     );
-    let _later = call_at_desk(&image, 2, [45, 0], &mut main, &mut desk)?;
+    let _later = call_at_desk(&code, 2, [45, 0], &mut main, &mut desk)?;
     assert_eq!(rt; desk.ended, Some(GuestEnd::Exit(44)));
     Ok(())
 }
 
 // Whether the instruction needs a slot, and what it leaves in x5.
-fn step_alone(image: &Image<'_>, pc: u64, hart: &mut Hart) -> (bool, u64) {
+fn step_alone(code: &Code<'_>, pc: u64, hart: &mut Hart) -> (bool, u64) {
     hart.thread.regs.set_pc(pc);
-    let request = hart.ask(image, 0);
+    let request = hart.ask(code, 0);
     let needs = hart.needs_slot(&request);
     let mut events = CallEvents::new();
     if let Request::Done = request {
@@ -218,9 +207,10 @@ fn steps_alone(rt: HostRuntime) -> Result<(), Fail> {
     let alloc = rt.alloc();
     let bytes = file(alloc)?;
     let image = load(alloc, bytes.as_slice())?;
+    let code = Code::new(alloc, &image)?;
     let mut main = hart(0);
-    assert_eq!(rt; step_alone(&image, ADD, &mut main), (true, 1));
-    assert_eq!(rt; step_alone(&image, ADD, &mut main), (false, 1));
-    assert_eq!(rt; step_alone(&image, ADD + 4, &mut main), (true, 1));
+    assert_eq!(rt; step_alone(&code, ADD, &mut main), (true, 1));
+    assert_eq!(rt; step_alone(&code, ADD, &mut main), (false, 1));
+    assert_eq!(rt; step_alone(&code, ADD + 4, &mut main), (true, 1));
     Ok(())
 }

@@ -17,6 +17,9 @@ use Rattle.run_laws.specs.Present.{label_now, frames_now}
 use Rattle.bare_machine.specs.World.{World, lives, HasMemory}
 use Rattle.bare_machine.specs.Step.{Step, step}
 use Rattle.bare_machine.specs.Preview.{needs_slot}
+use Rattle.bare_machine.specs.declared.machine.Stepped.{Stepped}
+use Rattle.bare_machine.specs.declared.machine.Stepped.TheVariants.{Made}
+use Rattle.bare_machine.specs.Plain.{Steps, MakesStep}
 use Rattle.turn_laws.specs.Still.{OnlyPuts}
 use Rattle.turn_laws.specs.Turns.{moments_before, entries_before}
 use Rattle.turn_laws.proofs.StepsLaw.{made_next, needs_next, state_next}
@@ -33,9 +36,19 @@ use Rattle.detector.specs.Stands.{Stands}
 use Rattle.thread_turns.specs.declared.part.Part.{Part}
 use Rattle.thread_turns.specs.declared.watched.WatchedMachine.{WatchedMachine}
 use Rattle.thread_turns.specs.Going.{Setting, bare, begun, world, turn_of, first, so_far, entry_of, is_needy, HasSlot, IsQuiet, Hearing, Running, IsGoingOn}
-use Rattle.thread_turns.specs.Turned.{MayHear, CanHearAll, Heard, HearsAll, CanGo, IsNext, MakesNext}
+use Rattle.thread_turns.specs.Turned.{MayHear, CanHearAll, Heard, HearsAll, CanGo, IsNext, TriesNext}
 use Rattle.thread_turns.proofs.EventLaws.{going_of}
 use Rattle.thread_turns.proofs.PutLaws.{stands_puts}
+
+-- the thread can make its next instruction
+pub record IsReady (file : List ℕ) (tid : ℕ) (p : Part) (w : WatchedMachine) : Type 0 where
+  pub next : IsNext file tid p w
+  pub can : CanGo next.setting p w
+
+abbrev pub MakesNext : List ℕ → ℕ → Part → Part → WatchedMachine → WatchedMachine → Type 0
+MakesNext file tid p q old new =
+    (s : Setting) → s.file ≡ file → s.tid ≡ tid → IsGoingOn s 1 p old → CanGo s p old → length (first s) + 8 * (p.steps + 1) < 2 ^ 32 →
+    IsGoingOn s 0 q new × (q.steps ≡ p.steps + 1)
 
 -- the part after one more instruction
 abbrev pub stepped : Part → ℕ → Bool → Part
@@ -291,10 +304,11 @@ module _ (s : Setting) (p : Part) (v : WatchedMachine) (going : IsGoingOn s 1 p 
 
 -- ---- the calls
 
-pub can_hear_all : (file : List ℕ) (tid : ℕ) (es : List Event) (p : Part) (v : WatchedMachine) → IsNext file tid p v → p.used ≡ false → es ≡ (step file v.machine tid).events → is_some (watcher_of v.detector tid).label ≡ true → CanHearAll file tid es p v.detector
-can_hear_all file tid es p v n unused same some =
+pub can_hear_all : (file : List ℕ) (tid : ℕ) (es : List Event) (p : Part) (v : WatchedMachine) → IsReady file tid p v → p.used ≡ false → es ≡ (step file v.machine tid).events → is_some (watcher_of v.detector tid).label ≡ true → CanHearAll file tid es p v.detector
+can_hear_all file tid es p v ready unused same some =
+    let n = ready.next in
     let s = n.setting in
-    let has = labelled s p v n.going_on unused n.room n.can (ap (λ (u : ℕ). is_some (watcher_of v.detector u).label) n.tid_is ∙ some) in
+    let has = labelled s p v n.going_on unused n.room ready.can (ap (λ (u : ℕ). is_some (watcher_of v.detector u).label) n.tid_is ∙ some) in
     record {
       setting = s;
       file_is = n.file_is;
@@ -338,3 +352,25 @@ makes_quiet file tid p q v w es object unused steps none q_is s f t going can ro
           (subst (λ (x : Part). q ≡ record p { events = x.events; steps = x.steps; used = x.used }) (sym q_is) q_is)),
       more,
     )
+
+-- ---- a try
+
+-- a thread that has a label, or needs none, can make its instruction
+pub can_of : (s : Setting) (file : List ℕ) (tid : ℕ) (p : Part) (v : WatchedMachine) (some : Bool) → s.file ≡ file → s.tid ≡ tid → IsGoingOn s 1 p v → p.used ≡ false → some ≡ is_some (watcher_of v.detector tid).label → (some ≡ false → needs_slot file v.machine tid ≡ false) → CanGo s p v
+can_of s file tid p v some f t going unused is needless = elim (going.phase unused) [
+  | inl has ↦ inl has
+  | inr quiet ↦ inr (
+    quiet,
+    ap (λ (x : List ℕ). needs_slot x v.machine s.tid) f ∙ (ap (needs_slot file v.machine) t ∙ needless (is ∙ (ap (λ (u : ℕ). is_some (watcher_of v.detector u).label) (sym t) ∙ ap is_some quiet.label))),
+  )
+]
+
+pub ready_of : (file : List ℕ) (tid : ℕ) (p : Part) (v : WatchedMachine) (some : Bool) → IsNext file tid p v → p.used ≡ false → some ≡ is_some (watcher_of v.detector tid).label → (some ≡ false → needs_slot file v.machine tid ≡ false) → IsReady file tid p v
+ready_of file tid p v some n unused is needless = record { next = n; can = can_of n.setting file tid p v some n.file_is n.tid_is n.going_on unused is needless }
+
+pub tries_of : (file : List ℕ) (tid : ℕ) (p q : Part) (v w : WatchedMachine) (some : Bool) → p.used ≡ false → some ≡ is_some (watcher_of v.detector tid).label → (some ≡ false → needs_slot file v.machine tid ≡ false) → MakesNext file tid p q v w → TriesNext file tid true p q v w
+tries_of file tid p q v w some unused is needless makes s f t going room = makes s f t going (can_of s file tid p v some f t going unused is needless) room
+
+-- what the machine's call tells of the image
+pub step_made : (file code : List ℕ) (tid : ℕ) (some : Bool) (old new : World) (es : List Event) (stepped : Stepped) (object : Option ℕ) → code ≡ file → stepped ≡ Made object → Steps code tid some old stepped new es → MakesStep file tid some old new es object
+step_made file code tid some old new es stepped object same is steps = subst (λ (x : Stepped). Steps file tid some old x new es) is (subst (λ (f : List ℕ). Steps f tid some old stepped new es) same steps)

@@ -6,3 +6,4 @@ pub mod ReadyLaws
 pub mod PartLaws
 pub mod EndLaws
 pub mod LocalRuns
+pub mod AdvanceLaws

@@ -1,10 +1,10 @@
 -- All instructions of a turn.
-use Rattle.std.proofs.Common.{◌≡◌, ℕ, ◌+◌, ◌-◌, ◌*◌, ◌<◌, ◌≤◌, ◌^◌, ◌⊎◌, inl, inr, Bool, true, false, List, length, refl, ap, sym, subst, ◌∙◌, arith, not}
+use Rattle.std.proofs.Common.{◌≡◌, ℕ, ◌+◌, ◌-◌, ◌*◌, ◌<◌, ◌≤◌, ◌^◌, ◌⊎◌, inl, inr, Bool, true, false, List, length, refl, sym, subst, ◌∙◌, arith, not}
 use Rattle.std.specs.Prelude.{if◌then◌else◌}
 use Rattle.thread_turns.specs.declared.part.Part.{Part}
 use Rattle.thread_turns.specs.declared.watched.WatchedMachine.{WatchedMachine}
 use Rattle.thread_turns.specs.Going.{Setting, first, IsGoingOn}
-use Rattle.thread_turns.specs.Turned.{IsTurnOf, IsStopped, ReadiesAll, IsNext, MakesNext, Goes, RunsLocals, BeginsPart, RunsPart}
+use Rattle.thread_turns.specs.Turned.{IsTurnOf, IsStopped, Advances, AdvancesAll, BeginsPlain, Goes, RunsPlain, BeginsPart, RunsPart}
 
 -- what has come of the turn so far
 pub record Partly (s : Setting) (stopped : Bool) (q : Part) (w : WatchedMachine) (most : ℕ) : Type 0 where
@@ -29,48 +29,40 @@ module _ (file : List ℕ) (tid most : ℕ) (p q : Part) (old w : WatchedMachine
   pub part_turn : q.steps < most → IsTurnOf file tid q w
   part_turn more = record { setting = begins.setting; file_is = begins.file_is; tid_is = begins.tid_is; going_on = here.going_on; room = let r = begins.room in omega arith }
 
-  -- instructions that touch registers alone come first
-  goes_by : (r : Part) (v : WatchedMachine) → RunsLocals file tid most q r w v → Goes begins.setting most q r v
+  pub part_begins : BeginsPlain file tid most q w
+  part_begins = record { setting = begins.setting; file_is = begins.file_is; tid_is = begins.tid_is; going_on = here.going_on; room = begins.room }
+
+  -- instructions without events come first
+  goes_by : (r : Part) (v : WatchedMachine) → RunsPlain file tid most q r w v → Goes begins.setting most q r v
   goes_by r v runs = runs begins.setting begins.file_is begins.tid_is here.going_on begins.room
 
-  pub part_locals : (r : Part) (v : WatchedMachine) → RunsLocals file tid most q r w v → PartlyAll file tid most false p r old v
-  part_locals r v runs s f t none unused going room =
+  pub part_plain : (r : Part) (v : WatchedMachine) → RunsPlain file tid most q r w v → PartlyAll file tid most false p r old v
+  part_plain r v runs s f t none unused going room =
       let now = runs s f t (so_far s f t none unused going room).going_on room in
       record { going_on = now.going_on; no_more = now.no_more; stopped_is = λ z. absurd (cc) }
 
-  pub part_next : (r : Part) (v : WatchedMachine) → q.steps < most → ReadiesAll file tid true q r w v → IsNext file tid r v
-  part_next r v more readies =
-      let ready = readies begins.setting begins.file_is begins.tid_is here.going_on in
-      let goes = ready.goes_on refl in
-      record { setting = begins.setting; file_is = begins.file_is; tid_is = begins.tid_is; going_on = goes.0; can = goes.1; room = let x = begins.room in let y = ready.steps in omega arith }
+  advance_by : (b : Bool) (u : Part) (x : WatchedMachine) → q.steps < most → AdvancesAll file tid b q u w x → Advances begins.setting b q u x
+  advance_by b u x more advances = advances begins.setting begins.file_is begins.tid_is here.going_on (let r = begins.room in omega arith)
 
-  pub part_unused : (r : Part) (v : WatchedMachine) (goes : Bool) → q.used ≡ false → ReadiesAll file tid goes q r w v → r.used ≡ false
-  part_unused r v goes unused readies = (readies begins.setting begins.file_is begins.tid_is here.going_on).used ∙ unused
+  pub part_more : (b : Bool) (u : Part) (x : WatchedMachine) → b ≡ true → q.steps < most → AdvancesAll file tid b q u w x → PartlyAll file tid most false p u old x
+  part_more true u x is more advances s f t none unused going room =
+      let made = advances s f t (so_far s f t none unused going room).going_on (omega arith) in
+      record { going_on = made.0; no_more = let z = made.1 in omega arith; stopped_is = λ z. absurd (cc) }
+  part_more false u x is more advances s f t none unused going room = absurd cc
 
-  pub part_more : (r u : Part) (v x : WatchedMachine) → q.steps < most → ReadiesAll file tid true q r w v → MakesNext file tid r u v x → PartlyAll file tid most false p u old x
-  part_more r u v x more readies makes s f t none unused going room =
-      let now = so_far s f t none unused going room in
-      let ready = readies s f t now.going_on in
-      let goes = ready.goes_on refl in
-      let made = makes s f t goes.0 goes.1 (let y = ready.steps in omega arith) in
-      record { going_on = made.0; no_more = let y = ready.steps in let z = made.1 in omega arith; stopped_is = λ z. absurd (cc) }
+  pub part_steps : (b : Bool) (u : Part) (x : WatchedMachine) → b ≡ true → q.steps < most → AdvancesAll file tid b q u w x → u.steps ≡ q.steps + 1
+  part_steps true u x is more advances = (advance_by true u x more advances).1
+  part_steps false u x is more advances = absurd cc
 
-  pub part_steps : (r u : Part) (v x : WatchedMachine) → q.steps < most → ReadiesAll file tid true q r w v → MakesNext file tid r u v x → u.steps ≡ q.steps + 1
-  part_steps r u v x more readies makes =
-      let s = begins.setting in
-      let ready = readies s begins.file_is begins.tid_is here.going_on in
-      let goes = ready.goes_on refl in
-      (makes s begins.file_is begins.tid_is goes.0 goes.1 (let y = ready.steps in let z = begins.room in omega arith)).1 ∙ ap (λ (n : ℕ). n + 1) ready.steps
+  pub part_stop : (b : Bool) (u : Part) (x : WatchedMachine) → b ≡ false → q.steps < most → q.used ≡ false → AdvancesAll file tid b q u w x → PartlyAll file tid most true p u old x
+  part_stop true u x is more not_used advances s f t none unused going room = absurd cc
+  part_stop false u x is more not_used advances s f t none unused going room =
+      let stays = advances s f t (so_far s f t none unused going room).going_on (omega arith) in
+      record { going_on = stays.going_on; no_more = let z = stays.steps in omega arith; stopped_is = λ z. (stays.used ∙ not_used, stays.stopped) }
 
-  pub part_stop : (r : Part) (v : WatchedMachine) → q.used ≡ false → ReadiesAll file tid false q r w v → PartlyAll file tid most true p r old v
-  part_stop r v not_used readies s f t none unused going room =
-      let now = so_far s f t none unused going room in
-      let ready = readies s f t now.going_on in
-      let stops = ready.stops refl in
-      record { going_on = stops.0; no_more = let y = ready.steps in let z = now.no_more in omega arith; stopped_is = λ z. (ready.used ∙ not_used, stops.1) }
-
-  pub part_stop_steps : (r : Part) (v : WatchedMachine) → ReadiesAll file tid false q r w v → r.steps ≡ q.steps
-  part_stop_steps r v readies = (readies begins.setting begins.file_is begins.tid_is here.going_on).steps
+  pub part_stop_steps : (b : Bool) (u : Part) (x : WatchedMachine) → b ≡ false → q.steps < most → AdvancesAll file tid b q u w x → u.steps ≡ q.steps
+  part_stop_steps true u x is more advances = absurd cc
+  part_stop_steps false u x is more advances = (advance_by false u x more advances).steps
 
 -- the loop ends
 pub part_ends : (file : List ℕ) (tid most : ℕ) (stopped : Bool) (p q : Part) (old new : WatchedMachine) → 1 ≤ most → PartlyAll file tid most stopped p q old new → (stopped ≡ true) ⊎ ((q.used ≡ true) ⊎ (most ≤ q.steps)) → RunsPart file tid most stopped p q old new
@@ -96,17 +88,20 @@ part_ends file tid most stopped p q old new positive so_far ended s f t none unu
 pub turn_of_code : (file code : List ℕ) (tid : ℕ) (p : Part) (w : WatchedMachine) → code ≡ file → IsTurnOf file tid p w → IsTurnOf code tid p w
 turn_of_code file code tid p w same turn = subst (λ (f : List ℕ). IsTurnOf f tid p w) (sym same) turn
 
-locals_of_code : (file code : List ℕ) (tid most : ℕ) (q r : Part) (w v : WatchedMachine) → code ≡ file → RunsLocals code tid most q r w v → RunsLocals file tid most q r w v
-locals_of_code file code tid most q r w v same runs = subst (λ (f : List ℕ). RunsLocals f tid most q r w v) same runs
+pub begins_of_code : (file code : List ℕ) (tid most : ℕ) (p : Part) (w : WatchedMachine) → code ≡ file → BeginsPlain file tid most p w → BeginsPlain code tid most p w
+begins_of_code file code tid most p w same begins = subst (λ (f : List ℕ). BeginsPlain f tid most p w) (sym same) begins
 
-pub after_locals : (file code : List ℕ) (tid most : ℕ) (b : Bool) (p q r : Part) (old w v : WatchedMachine) → BeginsPart file tid most p old → b ≡ false → PartlyAll file tid most b p q old w → code ≡ file → RunsLocals code tid most q r w v → PartlyAll file tid most false p r old v
-after_locals file code tid most b p q r old w v begins is all same runs =
-    part_locals file tid most p q old w begins (subst (λ (x : Bool). PartlyAll file tid most x p q old w) is all) r v (locals_of_code file code tid most q r w v same runs)
+plain_of_code : (file code : List ℕ) (tid most : ℕ) (q r : Part) (w v : WatchedMachine) → code ≡ file → RunsPlain code tid most q r w v → RunsPlain file tid most q r w v
+plain_of_code file code tid most q r w v same runs = subst (λ (f : List ℕ). RunsPlain f tid most q r w v) same runs
 
-pub few_locals : (file code : List ℕ) (tid most : ℕ) (b : Bool) (p q r : Part) (old w v : WatchedMachine) → BeginsPart file tid most p old → b ≡ false → PartlyAll file tid most b p q old w → code ≡ file → RunsLocals code tid most q r w v → (q.steps ≤ r.steps) × (r.steps ≤ most) × (r.used ≡ false)
-few_locals file code tid most b p q r old w v begins is all same runs =
-    let goes = goes_by file tid most p q old w begins (subst (λ (x : Bool). PartlyAll file tid most x p q old w) is all) r v (locals_of_code file code tid most q r w v same runs) in
-    (goes.no_less, goes.no_more, goes.unused)
+pub after_plain : (file code : List ℕ) (tid most : ℕ) (b : Bool) (p q r : Part) (old w v : WatchedMachine) → BeginsPart file tid most p old → b ≡ false → PartlyAll file tid most b p q old w → code ≡ file → RunsPlain code tid most q r w v → PartlyAll file tid most false p r old v
+after_plain file code tid most b p q r old w v begins is all same runs =
+    part_plain file tid most p q old w begins (subst (λ (x : Bool). PartlyAll file tid most x p q old w) is all) r v (plain_of_code file code tid most q r w v same runs)
+
+pub few_plain : (file code : List ℕ) (tid most : ℕ) (b : Bool) (p q r : Part) (old w v : WatchedMachine) → BeginsPart file tid most p old → b ≡ false → PartlyAll file tid most b p q old w → code ≡ file → RunsPlain code tid most q r w v → (q.steps ≤ r.steps) × (r.steps ≤ most) × (r.used ≡ true → q.steps < r.steps)
+few_plain file code tid most b p q r old w v begins is all same runs =
+    let goes = goes_by file tid most p q old w begins (subst (λ (x : Bool). PartlyAll file tid most x p q old w) is all) r v (plain_of_code file code tid most q r w v same runs) in
+    (goes.no_less, goes.no_more, goes.some)
 
 not_false : (b : Bool) → not b ≡ true → b ≡ false
 not_false true z = absurd (cc)
@@ -119,17 +114,11 @@ at_false file tid most b p q old w is all = subst (λ (x : Bool). PartlyAll file
 pub from_false : (file : List ℕ) (tid most : ℕ) (b : Bool) (p q : Part) (old w : WatchedMachine) → b ≡ false → PartlyAll file tid most false p q old w → PartlyAll file tid most b p q old w
 from_false file tid most b p q old w is all = subst (λ (x : Bool). PartlyAll file tid most x p q old w) (sym is) all
 
-pub goes_true : (file : List ℕ) (tid : ℕ) (b : Bool) (q r : Part) (w v : WatchedMachine) → b ≡ true → ReadiesAll file tid b q r w v → ReadiesAll file tid true q r w v
-goes_true file tid b q r w v is all = subst (λ (x : Bool). ReadiesAll file tid x q r w v) is all
-
-pub goes_false : (file : List ℕ) (tid : ℕ) (b : Bool) (q r : Part) (w v : WatchedMachine) → b ≡ false → ReadiesAll file tid b q r w v → ReadiesAll file tid false q r w v
-goes_false file tid b q r w v is all = subst (λ (x : Bool). ReadiesAll file tid x q r w v) is all
-
 pub smaller_step : (most steps now later : ℕ) (b : Bool) → b ≡ false → steps ≤ now → later ≡ now + 1 → now < most → left most later b < left most steps b
 smaller_step most steps now later b is grows next less = rw is (omega arith)
 
 pub smaller_stop : (most steps now later : ℕ) (b : Bool) → b ≡ false → steps ≤ now → later ≡ now → left most later true < left most steps b
 smaller_stop most steps now later b is grows same = rw is (omega arith)
 
-pub smaller_all : (most steps later : ℕ) (b : Bool) → steps < most → later ≡ most → left most later b < left most steps b
-smaller_all most steps later b less all = omega arith
+pub smaller_plain : (most steps later : ℕ) (b : Bool) → steps < most → steps < later → left most later b < left most steps b
+smaller_plain most steps later b less more = omega arith

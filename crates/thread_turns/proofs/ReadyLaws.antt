@@ -1,5 +1,5 @@
 -- A label for a thread whose next instruction needs a slot.
-use Rattle.std.proofs.Common.{◌≡◌, ℕ, ◌+◌, ◌<◌, ◌^◌, ◌-◌, ◌⊎◌, ◌||◌, inl, inr, Bool, true, false, cond, Option, Some, None, List, [], ◌∷◌, ◌++◌, length, length-append, refl, ap, sym, subst, ◌∙◌, arith, is_none, not}
+use Rattle.std.proofs.Common.{◌≡◌, ℕ, ◌+◌, ◌<◌, ◌^◌, ◌-◌, ◌||◌, inl, inr, Bool, true, false, cond, Option, Some, None, List, [], ◌∷◌, ◌++◌, length, length-append, refl, ap, sym, subst, ◌∙◌, arith, is_none}
 use Rattle.std.specs.Prelude.{option_map, is_some, IfSome, IfNone}
 use Rattle.std.proofs.lemmas.Bool.{and_parts}
 use Rattle.std.proofs.lemmas.List.{get_or-set_same}
@@ -32,8 +32,19 @@ use Rattle.slot_desk.specs.Steps as desks
 use Rattle.thread_turns.specs.declared.part.Part.{Part}
 use Rattle.thread_turns.specs.declared.watched.WatchedMachine.{WatchedMachine}
 use Rattle.thread_turns.specs.Going.{Setting, bare, begun, world, turn_of, first, so_far, entry_of, is_needy, CanTake, Hearing, HasSlot, IsQuiet, Running, IsGoingOn}
-use Rattle.thread_turns.specs.Turned.{IsTurnOf, CanGo, Readies, ReadiesAll}
+use Rattle.thread_turns.specs.Turned.{IsTurnOf, CanGo, IsStopped}
 use Rattle.thread_turns.proofs.EventLaws.{going_of, few_in_trace}
+
+-- whether the thread can go on, when it has taken a label where it had to
+pub record Readies (s : Setting) (goes : Bool) (p q : Part) (old new : WatchedMachine) : Type 0 where
+  pub machine : new.machine ≡ old.machine
+  pub steps : q.steps ≡ p.steps
+  pub used : q.used ≡ p.used
+  pub goes_on : goes ≡ true → IsGoingOn s 1 q new × CanGo s q new
+  pub stops : goes ≡ false → IsGoingOn s 0 q new × IsStopped s q new
+
+abbrev pub ReadiesAll : List ℕ → ℕ → Bool → Part → Part → WatchedMachine → WatchedMachine → Type 0
+ReadiesAll file tid goes p q old new = (s : Setting) → s.file ≡ file → s.tid ≡ tid → IsGoingOn s 0 p old → Readies s goes p q old new
 
 -- what the detector asks for before a thread takes a label
 pub record AsksAttach (tid : ℕ) (d : Detected) : Type 0 where
@@ -76,7 +87,7 @@ module _ (s : Setting) (p : Part) (w : WatchedMachine) (on : IsGoingOn s 0 p w) 
   needy_now : is_needy s (p.steps + 0) ≡ true → is_needy s p.steps ≡ true
   needy_now is = let z : p.steps ≡ p.steps + 0 = omega arith in ap (is_needy s) z ∙ is
 
-  goes : IsGoingOn s 1 p w
+  pub goes : IsGoingOn s 1 p w
   goes = record {
     limits_are = on.limits_are;
     running = on.running;
@@ -288,27 +299,6 @@ module _ (s : Setting) (p : Part) (w : WatchedMachine) (on : IsGoingOn s 0 p w) 
         takes_it = record { machine = refl; steps = refl; used = refl; goes_on = λ is. (on_taken, inl has); stops = λ is. absurd cc }
 
 -- ---- as the calls tell it
-
--- the thread has a label, or its next instruction needs none
-pub ready_as_it_is : (file : List ℕ) (tid : ℕ) (p : Part) (w : WatchedMachine) (o : Option Label) → p.used ≡ false → o ≡ (watcher_of w.detector tid).label → (is_some o ≡ true) ⊎ (needs_slot file w.machine tid ≡ false) → ReadiesAll file tid true p p w w
-ready_as_it_is file tid p w o unused is either s f t on = goes_as_it_is s p w on unused can
-  where
-    can : CanGo s p w
-    can = elim (on.phase unused) [
-      | inl has ↦ inl has
-      | inr quiet ↦ elim either [
-        | inl some ↦ absurd (let z = sym some ∙ ap is_some (is ∙ (ap (λ (u : ℕ). (watcher_of w.detector u).label) (sym t) ∙ quiet.label)) in cc)
-        | inr none ↦ inr (quiet, ap (λ (x : List ℕ). needs_slot x w.machine s.tid) f ∙ (ap (needs_slot file w.machine) t ∙ none))
-      ]
-    ]
-
-pub not_true : (b : Bool) → not b ≡ true → b ≡ false
-not_true true is = absurd cc
-not_true false is = refl
-
-pub not_false : (b : Bool) → not b ≡ false → b ≡ true
-not_false true is = refl
-not_false false is = absurd cc
 
 none_of : (o : Option Label) → is_some o ≡ false → o ≡ None
 none_of None is = refl

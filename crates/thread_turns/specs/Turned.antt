@@ -1,11 +1,11 @@
 -- What each part of a turn asks for and does.
-use Rattle.std.specs.Prelude.{◌≡◌, ◌<◌, ◌≤◌, ◌⊎◌, ◌+◌, ◌*◌, ◌^◌, ℕ, Bool, true, false, List, [], ◌++◌, length, fold}
+use Rattle.std.specs.Prelude.{◌≡◌, ◌<◌, ◌≤◌, ◌⊎◌, ◌+◌, ◌*◌, ◌^◌, ℕ, Bool, true, false, List, [], ◌++◌, length, None, fold}
 use Rattle.std.specs.List.{list_any}
 use Rattle.run_record.specs.declared.event.Event.{Event}
 use Rattle.bare_machine.specs.Preview.{needs_slot}
 use Rattle.machine_laws.specs.Threads.{Threads, threads_after, AreThreads}
 use Rattle.machine_laws.specs.Events.{AreAllowed, is_last}
-use Rattle.detector.specs.Detected.{Detected}
+use Rattle.detector.specs.Detected.{Detected, watcher_of}
 use Rattle.thread_turns.specs.declared.part.Part.{Part}
 use Rattle.thread_turns.specs.declared.watched.WatchedMachine.{WatchedMachine}
 use Rattle.thread_turns.specs.Ranges.{AreLimits}
@@ -62,42 +62,61 @@ pub record IsStopped (s : Setting) (p : Part) (w : WatchedMachine) : Type 0 wher
   pub needy : needs_slot s.file w.machine s.tid ≡ true
   pub empty : w.detector.desk.queue ≡ []
 
--- whether the thread can go on, when it has taken a label where it had to
-pub record Readies (s : Setting) (goes : Bool) (p q : Part) (old new : WatchedMachine) : Type 0 where
-  pub machine : new.machine ≡ old.machine
-  pub steps : q.steps ≡ p.steps
-  pub used : q.used ≡ p.used
-  pub goes_on : goes ≡ true → IsGoingOn s 1 q new × CanGo s q new
-  pub stops : goes ≡ false → IsGoingOn s 0 q new × IsStopped s q new
-
-abbrev pub ReadiesAll : List ℕ → ℕ → Bool → Part → Part → WatchedMachine → WatchedMachine → Type 0
-ReadiesAll file tid goes p q old new = (s : Setting) → s.file ≡ file → s.tid ≡ tid → IsGoingOn s 0 p old → Readies s goes p q old new
-
--- the thread can make its next instruction
+-- the thread may try its next instruction
 pub record IsNext (file : List ℕ) (tid : ℕ) (p : Part) (w : WatchedMachine) : Type 0 where
   pub setting : Setting
   pub file_is : setting.file ≡ file
   pub tid_is : setting.tid ≡ tid
   pub going_on : IsGoingOn setting 1 p w
-  pub can : CanGo setting p w
   pub room : length (first setting) + 8 * (p.steps + 1) < 2 ^ 32
 
-abbrev pub MakesNext : List ℕ → ℕ → Part → Part → WatchedMachine → WatchedMachine → Type 0
-MakesNext file tid p q old new =
-    (s : Setting) → s.file ≡ file → s.tid ≡ tid → IsGoingOn s 1 p old → CanGo s p old → length (first s) + 8 * (p.steps + 1) < 2 ^ 32 →
-    IsGoingOn s 0 q new × (q.steps ≡ p.steps + 1)
+-- nothing has changed, since the instruction needs a slot and the thread has no label
+pub record LacksLabel (file : List ℕ) (tid : ℕ) (p q : Part) (old new : WatchedMachine) : Type 0 where
+  pub part_stays : q ≡ p
+  pub stays : new ≡ old
+  pub unlabelled : (watcher_of old.detector tid).label ≡ None
+  pub needy : needs_slot file old.machine tid ≡ true
 
--- ---- instructions that touch registers alone
+-- whether the instruction was made
+abbrev pub TriesNext : List ℕ → ℕ → Bool → Part → Part → WatchedMachine → WatchedMachine → Type 0
+TriesNext file tid true p q old new =
+    (s : Setting) → s.file ≡ file → s.tid ≡ tid → IsGoingOn s 1 p old → length (first s) + 8 * (p.steps + 1) < 2 ^ 32 → IsGoingOn s 0 q new × (q.steps ≡ p.steps + 1)
+TriesNext file tid false p q old new = LacksLabel file tid p q old new
 
--- the thread has made some, or none, and goes on
+-- the thread stays where it is for want of a slot
+pub record Stays (s : Setting) (p q : Part) (new : WatchedMachine) : Type 0 where
+  pub going_on : IsGoingOn s 0 q new
+  pub stopped : IsStopped s q new
+  pub steps : q.steps ≡ p.steps
+  pub used : q.used ≡ p.used
+
+-- whether the thread made its next instruction, when it took a label where it had to
+abbrev pub Advances : Setting → Bool → Part → Part → WatchedMachine → Type 0
+Advances s true p q new = IsGoingOn s 0 q new × (q.steps ≡ p.steps + 1)
+Advances s false p q new = Stays s p q new
+
+abbrev pub AdvancesAll : List ℕ → ℕ → Bool → Part → Part → WatchedMachine → WatchedMachine → Type 0
+AdvancesAll file tid made p q old new = (s : Setting) → s.file ≡ file → s.tid ≡ tid → IsGoingOn s 0 p old → length (first s) + 8 * (p.steps + 1) < 2 ^ 32 → Advances s made p q new
+
+-- ---- instructions without events
+
+-- the turn is going on, and so many instructions fit in all
+pub record BeginsPlain (file : List ℕ) (tid most : ℕ) (p : Part) (w : WatchedMachine) : Type 0 where
+  pub setting : Setting
+  pub file_is : setting.file ≡ file
+  pub tid_is : setting.tid ≡ tid
+  pub going_on : IsGoingOn setting 0 p w
+  pub room : length (first setting) + 8 * most < 2 ^ 32
+
+-- the thread has made some, or none, the last of which may have used an object
 pub record Goes (s : Setting) (most : ℕ) (p q : Part) (w : WatchedMachine) : Type 0 where
   pub going_on : IsGoingOn s 0 q w
   pub no_less : p.steps ≤ q.steps
   pub no_more : q.steps ≤ most
-  pub unused : q.used ≡ false
+  pub some : q.used ≡ true → p.steps < q.steps
 
-abbrev pub RunsLocals : List ℕ → ℕ → ℕ → Part → Part → WatchedMachine → WatchedMachine → Type 0
-RunsLocals file tid most p q old new =
+abbrev pub RunsPlain : List ℕ → ℕ → ℕ → Part → Part → WatchedMachine → WatchedMachine → Type 0
+RunsPlain file tid most p q old new =
     (s : Setting) → s.file ≡ file → s.tid ≡ tid → IsGoingOn s 0 p old → length (first s) + 8 * most < 2 ^ 32 → Goes s most p q new
 
 -- ---- all instructions of a turn

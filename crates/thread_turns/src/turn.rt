@@ -1,9 +1,10 @@
 // One turn of a thread.
 ghost use Rattle.std.specs.Prelude.{◌≡◌, ◌≤◌, ◌<◌, ◌+◌, true, false, None, [], length, IfOk, OnOk};
 ghost use Rattle.bare_machine.specs.World.{lives};
-ghost use Rattle.thread_turns.specs.Turned.{CanHearAll, HearsAll, IsTurnOf, ReadiesAll, IsNext, MakesNext, RunsLocals, BeginsPart, RunsPart};
+ghost use Rattle.thread_turns.specs.Turned.{CanHearAll, HearsAll, IsTurnOf, IsNext, TriesNext, AdvancesAll, BeginsPlain, RunsPlain, BeginsPart, RunsPart};
 
 use crate::{Part, WatchedMachine};
+use bare_machine::{Plain, Stepped};
 use detector::Detector;
 use elf_image::Image;
 use entry_calls::CallEvents;
@@ -33,40 +34,26 @@ fn hear_all(
 }
 
 impl WatchedMachine {
-    // Takes a label where the next instruction needs one and the thread has none. Says whether the thread can go on.
-    pub(crate) fn ready(
-        &mut self,
-        image: &Image<'_>,
-        tid: u32,
-        part: &mut Part,
-    ) -> Result<bool, NoMemory>
-        requires unused { part.old.used ≡ false }
-        requires turn { IsTurnOf image.now tid part.old self.old }
-        ensures { IfOk result (λ goes. ReadiesAll image.now tid goes part.old part.new self.old self.new) }
-    {
-        if self.detector.label(tid).is_some() || !self.machine.preview(image, tid).needs_slot {
-            return Ok(true);
-        }
-        self.detector.room(tid)?;
-        part.attached = self.detector.attach(tid);
-        Ok(part.attached.is_some())
-    }
-
-    // The thread makes one instruction.
-    pub(crate) fn instruction(
+    // The thread makes its next instruction, where it has a label or needs none. Says whether it did.
+    fn instruction(
         &mut self,
         alloc: Global,
         image: &Image<'_>,
+        code: &Code<'_>,
         tid: u32,
         part: &mut Part,
-    ) -> Result<(), NoMemory>
+    ) -> Result<bool, NoMemory>
+        requires code { code.now ≡ image.now }
         requires unused { part.old.used ≡ false }
         requires next { IsNext image.now tid part.old self.old }
-        ensures { OnOk result (MakesNext image.now tid part.old part.new self.old self.new) }
+        ensures { IfOk result (λ made. TriesNext image.now tid made part.old part.new self.old self.new) }
     {
         let labelled = self.detector.label(tid).is_some();
         let mut made = CallEvents::new();
-        let object = self.machine.step(image, tid, &mut made)?;
+        let object = match self.machine.step(code, tid, labelled, &mut made)? {
+            Stepped::Made(object) => object,
+            Stepped::NeedsSlot => return Ok(false),
+        };
         let events = made.as_slice();
         if labelled {
             hear_all(&mut self.detector, alloc, image, tid, events, part)?;
@@ -75,7 +62,48 @@ impl WatchedMachine {
         }
         part.steps += 1;
         part.used = object.is_some();
-        Ok(())
+        Ok(true)
+    }
+
+    // The thread makes its next instruction, for which it takes a label where it needs one and has none. Says whether it could.
+    fn advance(
+        &mut self,
+        alloc: Global,
+        image: &Image<'_>,
+        code: &Code<'_>,
+        tid: u32,
+        part: &mut Part,
+    ) -> Result<bool, NoMemory>
+        requires code { code.now ≡ image.now }
+        requires unused { part.old.used ≡ false }
+        requires turn { IsTurnOf image.now tid part.old self.old }
+        ensures { IfOk result (λ made. AdvancesAll image.now tid made part.old part.new self.old self.new) }
+    {
+        if self.instruction(alloc, image, code, tid, part)? {
+            return Ok(true);
+        }
+        self.detector.room(tid)?;
+        part.attached = self.detector.attach(tid);
+        if part.attached.is_none() {
+            return Ok(false);
+        }
+        self.instruction(alloc, image, code, tid, part)
+    }
+
+    // The thread's next instruction, where it is one without events that needs no label.
+    fn make_plain(&mut self, code: &Code<'_>, tid: u32, part: &mut Part)
+        requires unused { part.old.used ≡ false }
+        requires turn { IsTurnOf code.now tid part.old self.old }
+        ensures { RunsPlain code.now tid (part.old.steps + 1) part.old part.new self.old self.new }
+    {
+        match self.machine.make_plain(code, tid) {
+            Plain::Nothing => {}
+            Plain::Registers => part.steps += 1,
+            Plain::Word => {
+                part.steps += 1;
+                part.used = true;
+            }
+        }
     }
 
     // The thread's next instructions, as long as they touch its registers alone and the turn gives more.
@@ -83,9 +111,24 @@ impl WatchedMachine {
         requires unused { part.old.used ≡ false }
         requires few { part.old.steps ≤ most }
         requires turn { IsTurnOf code.now tid part.old self.old }
-        ensures { RunsLocals code.now tid most part.old part.new self.old self.new }
+        ensures goes { RunsPlain code.now tid most part.old part.new self.old self.new }
+        ensures unused { part.new.used ≡ false }
+        ensures few { part.new.steps ≤ most }
     {
         part.steps += self.machine.run_locals(code, tid, most - part.steps);
+    }
+
+    // The same, and one behind them that loads or stores a word, if it is the next.
+    fn run_plain(&mut self, code: &Code<'_>, tid: u32, most: u32, part: &mut Part)
+        requires unused { part.old.used ≡ false }
+        requires few { part.old.steps < most }
+        requires turn { BeginsPlain code.now tid most part.old self.old }
+        ensures { RunsPlain code.now tid most part.old part.new self.old self.new }
+    {
+        self.run_locals(code, tid, most, part);
+        if part.steps < most {
+            self.make_plain(code, tid, part);
+        }
     }
 
     // The instructions of a turn, at most so many. Says whether they ended since no slot was free.
@@ -105,13 +148,11 @@ impl WatchedMachine {
     {
         let mut stopped = false;
         'steps: while !stopped && !part.used && part.steps < most {
-            self.run_locals(code, tid, most, part);
-            if part.steps == most {
+            self.run_plain(code, tid, most, part);
+            if part.used || part.steps == most {
                 continue 'steps;
             }
-            if self.ready(image, tid, part)? {
-                self.instruction(alloc, image, tid, part)?;
-            } else {
+            if !self.advance(alloc, image, code, tid, part)? {
                 stopped = true;
             }
         }

@@ -1,4 +1,4 @@
-use Rattle.bare_machine.proofs.request.Request.of.Goals as goal
+use Rattle.bare_machine.proofs.asking.request_of_word.Goals as goal
 
 pub returns-in_default-clause-within : goal.returns-in_default-clause-within
 returns-in_default-clause-within c = c.faulted.ensures.within c.args.image.now
