@@ -1,2 +1,6 @@
 pub mod HeldLaws
 pub mod EdgeLaws
+pub mod WayLaws
+pub mod KnotLaws
+pub mod KnownKnots
+pub mod NodeLaws

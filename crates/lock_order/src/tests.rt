@@ -1,5 +1,5 @@
 // Edges of small histories, and the text of a cycle.
-use crate::{Cycle, Edge, Edges, cycle_text, edges};
+use crate::{Cycle, Edge, Edges, cycle_text, cycles, edges};
 use run_record::{CheckList, DeskNote, Entries, Entry, Event, EventList, NoMemory, Record};
 use std::alloc::{AllocError, Global};
 use std::test::Fail;
@@ -89,5 +89,71 @@ fn a_cycle_is_written(rt: HostRuntime) -> Result<(), Fail> {
     let expected =
         b"lock cycle: 0x0000000001000008 0x0000000001000010\n  0x0000000001000008 then 0x0000000001000010 by main thread\n  0x0000000001000010 then 0x0000000001000008 by thread T1\n";
     assert_eq!(rt; text.as_slice(), expected.as_slice());
+    Ok(())
+}
+
+// A thread takes the second of each pair while it keeps the first.
+fn history(alloc: Global, pairs: &[(u64, u64)]) -> Result<Record, AllocError> {
+    let mut entries = Entries::new(alloc);
+    for (from, to) in pairs {
+        let events = [lock(*from), lock(*to), unlock(*to), unlock(*from)];
+        entries.push(entry(alloc, 0, &events)?)?;
+    }
+    Ok(Record { entries })
+}
+
+fn starts(alloc: Global, pairs: &[(u64, u64)]) -> Result<Vec<Vec<u64>>, NoMemory> {
+    let history = history(alloc, pairs)?;
+    let edges = edges(alloc, &history)?;
+    let mut all = Vec::new(alloc);
+    for cycle in cycles(alloc, &edges)?.as_slice() {
+        let mut one = Vec::new(alloc);
+        for edge in cycle.edges.as_slice() {
+            one.push(edge.from)?;
+        }
+        all.push(one)?;
+    }
+    Ok(all)
+}
+
+// Two rings through 8, of three and of two; behind it a ring of two at 40, and a way that leads
+// nowhere.
+#[test]
+fn shortest_first_cycles(rt: HostRuntime) -> Result<(), Fail> {
+    let pairs = [
+        (8, 16),
+        (8, 32),
+        (16, 24),
+        (24, 8),
+        (32, 8),
+        (32, 40),
+        (40, 48),
+        (48, 40),
+        (48, 56),
+    ];
+    let found = starts(rt.alloc(), &pairs)?;
+    assert_eq!(rt; found.len(), 2);
+    assert_eq!(rt; found[0].as_slice(), [8, 32].as_slice());
+    assert_eq!(rt; found[1].as_slice(), [40, 48].as_slice());
+    Ok(())
+}
+
+// Two ways round of the same length: the first by addresses.
+#[test]
+fn the_first_of_two_ways(rt: HostRuntime) -> Result<(), Fail> {
+    let pairs = [(8, 24), (8, 32), (16, 8), (24, 40), (32, 16), (40, 8)];
+    let found = starts(rt.alloc(), &pairs)?;
+    assert_eq!(rt; found.len(), 1);
+    assert_eq!(rt; found[0].as_slice(), [8, 24, 40].as_slice());
+    Ok(())
+}
+
+// Three mutexes in a ring.
+#[test]
+fn a_ring_of_three(rt: HostRuntime) -> Result<(), Fail> {
+    let pairs = [(8, 16), (16, 24), (24, 8)];
+    let found = starts(rt.alloc(), &pairs)?;
+    assert_eq!(rt; found.len(), 1);
+    assert_eq!(rt; found[0].as_slice(), [8, 16, 24].as_slice());
     Ok(())
 }
