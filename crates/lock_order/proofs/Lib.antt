@@ -4,3 +4,4 @@ pub mod WayLaws
 pub mod KnotLaws
 pub mod KnownKnots
 pub mod NodeLaws
+pub mod SameText

@@ -1,5 +1,5 @@
 // Edges of small histories, and the text of a cycle.
-use crate::{Cycle, Edge, Edges, cycle_text, cycles, edges};
+use crate::{Cycle, Edge, Edges, cycle_text, cycles, edges, lock_text};
 use run_record::{CheckList, DeskNote, Entries, Entry, Event, EventList, NoMemory, Record};
 use std::alloc::{AllocError, Global};
 use std::test::Fail;
@@ -155,5 +155,39 @@ fn a_ring_of_three(rt: HostRuntime) -> Result<(), Fail> {
     let found = starts(rt.alloc(), &pairs)?;
     assert_eq!(rt; found.len(), 1);
     assert_eq!(rt; found[0].as_slice(), [8, 16, 24].as_slice());
+    Ok(())
+}
+
+// What two threads that each take two mutexes tell.
+fn told(alloc: Global, first: &[Event], second: &[Event]) -> Result<Vec<u8>, NoMemory> {
+    let mut entries = Entries::new(alloc);
+    entries.push(entry(alloc, 0, first)?)?;
+    entries.push(entry(alloc, 1, second)?)?;
+    let history = Record { entries };
+    let mut text = Vec::new(alloc);
+    for piece in &lock_text(alloc, &history)?.texts {
+        text.extend_from_slice(piece.as_slice())?;
+    }
+    Ok(text)
+}
+
+#[test]
+fn two_orders_are_a_cycle(rt: HostRuntime) -> Result<(), Fail> {
+    let (low, high) = (0x1000008, 0x1000010);
+    let first = [lock(low), lock(high), unlock(high), unlock(low)];
+    let second = [lock(high), lock(low), unlock(low), unlock(high)];
+    let text = told(rt.alloc(), &first, &second)?;
+    let expected =
+        b"lock cycle: 0x0000000001000008 0x0000000001000010\n  0x0000000001000008 then 0x0000000001000010 by main thread\n  0x0000000001000010 then 0x0000000001000008 by thread T1\nlocks: 1 cycles\n";
+    assert_eq!(rt; text.as_slice(), expected.as_slice());
+    Ok(())
+}
+
+#[test]
+fn one_order_is_none(rt: HostRuntime) -> Result<(), Fail> {
+    let (low, high) = (0x1000008, 0x1000010);
+    let first = [lock(low), lock(high), unlock(high), unlock(low)];
+    let text = told(rt.alloc(), &first, &first)?;
+    assert_eq!(rt; text.as_slice(), b"locks: 0 cycles\n".as_slice());
     Ok(())
 }
