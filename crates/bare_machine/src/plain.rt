@@ -2,6 +2,7 @@
 ghost use Rattle.std.specs.Prelude.{◌≡◌, ℕ, Some, length, slice_get, slice_set};
 ghost use Rattle.elf_image.specs.File.{granules_of};
 ghost use Rattle.bare_machine.specs.World.{World};
+ghost use Rattle.bare_machine.specs.Step.{with_registers};
 ghost use Rattle.bare_machine.specs.Plain.{MakesPlain};
 
 use crate::memory::Memory;
@@ -28,7 +29,8 @@ impl Thread {
     #[inline(always)]
     pub(crate) fn make_plain(&mut self, code: &Code<'_>, memory: &mut Memory) -> Plain
         requires { length memory.old.words ≡ granules_of code.now }
-        ensures { (tid : ℕ) (w : World) → slice_get w.threads tid ≡ Some self.old → w.memory ≡ memory.old → MakesPlain code.now tid w result (record w { threads = slice_set w.threads tid self.new; memory = memory.new }) }
+        ensures registers { self.new ≡ with_registers self.old self.new.regs }
+        ensures made { (tid : ℕ) (w : World) → slice_get w.threads tid ≡ Some self.old → w.memory ≡ memory.old → MakesPlain code.now tid w result (record w { threads = slice_set w.threads tid self.new; memory = memory.new }) }
     {
         if !self.began {
             return Plain::Nothing;

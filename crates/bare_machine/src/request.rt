@@ -67,8 +67,8 @@ impl Request {
             Request::Operate(operation) => Some(stripe(operation.addr)),
             Request::Put { .. }
             | Request::Create { .. }
-            | Request::Join { .. }
-            | Request::Stop(_) => Some(DESK),
+            | Request::Stop(_)
+            | Request::Join { .. } => Some(DESK),
         }
     }
 

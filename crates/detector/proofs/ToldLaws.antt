@@ -147,6 +147,23 @@ module _ (granules : ℕ) (d : Detected) (one : Awaited) (from : ℕ) (leaving :
 abbrev label_by : Cell → Label
 label_by cell = record { sid = cell.sid; epoch = cell.epoch; era = cell.era }
 
+-- the side that the code makes of an access that it found, and of one that is lost
+abbrev found_by : Cell → ℕ → ℕ → ℕ → List ℕ → List KeptLock → Side
+found_by cell t addr size stack locks =
+    record { tid = t; read = cell.read; atomic = cell.atomic; addr = addr; size = size; stack = Some stack; locks = locks }
+
+abbrev lost_by : Cell → ℕ → ℕ → Side
+lost_by cell address t =
+    record {
+      tid = t;
+      read = cell.read;
+      atomic = cell.atomic;
+      addr = address + trailing_zeros w8 cell.mask;
+      size = count_ones cell.mask;
+      stack = None;
+      locks = [];
+    }
+
 module _ (file : List ℕ) (trace : HeldTrace) (granule word : ℕ) (can : CanBeSought file trace granule word) where
   pub sought_cell : (cell : Cell) (r : Option Cell) → r ≡ cell_in word → r ≡ Some cell → cell ≡ fields_of word
   sought_cell cell r value is = let e = can.cell in cc
@@ -169,29 +186,36 @@ module _ (file : List ℕ) (trace : HeldTrace) (granule word : ℕ) (can : CanBe
     found_same = rw (cell_fields, address_is) at found_is
 
     pub side_found : (place addr size : ℕ) (stack : List ℕ) (locks : List KeptLock) → found ≡ Found place addr size stack locks →
-        ◌≡◌ {A = Side} (record { tid = t; read = cell.read; atomic = cell.atomic; addr = addr; size = size; stack = Some stack; locks = locks }) (side_in file trace granule word t)
+        found_by cell t addr size stack locks ≡ side_in file trace granule word t
     side_found place addr size stack locks is = step ∙ ap (previous_side (granule_address file) granule word t) found_same
       where
-        step : ◌≡◌ {A = Side} (record { tid = t; read = cell.read; atomic = cell.atomic; addr = addr; size = size; stack = Some stack; locks = locks }) (previous_side (granule_address file) granule word t found)
+        step : found_by cell t addr size stack locks ≡ previous_side (granule_address file) granule word t found
         step = rw (is, cell_fields) refl
 
-    pub side_lost : (side : Side) → found ≡ Lost →
-        side ≡ record { tid = t; read = cell.read; atomic = cell.atomic; addr = address + trailing_zeros w8 cell.mask; size = count_ones cell.mask; stack = None; locks = [] } →
-        side ≡ side_in file trace granule word t
+    pub side_lost : (side : Side) → found ≡ Lost → side ≡ lost_by cell address t → side ≡ side_in file trace granule word t
     side_lost side lost side_is = side_is ∙ (step ∙ ap (previous_side (granule_address file) granule word t) found_same)
       where
-        step : ◌≡◌ {A = Side} (record { tid = t; read = cell.read; atomic = cell.atomic; addr = address + trailing_zeros w8 cell.mask; size = count_ones cell.mask; stack = None; locks = [] }) (previous_side (granule_address file) granule word t found)
+        step : lost_by cell address t ≡ previous_side (granule_address file) granule word t found
         step = rw (lost, cell_fields, address_is) refl
 
-pub owner_cell : (desk : DeskContents) (word : ℕ) → HasOwnerAt desk word → (cell : Cell) (r : Option Cell) → r ≡ cell_in word → r ≡ Some cell → cell ≡ fields_of word
-owner_cell desk word has cell r value is = let e = has.cell in cc
+module _ (desk : DeskContents) (word : ℕ) where
+  pub owner_cell : HasOwnerAt desk word → (cell : Cell) (r : Option Cell) → r ≡ cell_in word → r ≡ Some cell → cell ≡ fields_of word
+  owner_cell has cell r value is = let e = has.cell in cc
 
-pub owner_named : (desk : DeskContents) (word t : ℕ) (cell : Cell) (u : Option ℕ) → cell ≡ fields_of word → u ≡ owner_at (slot_of desk cell.sid).journal cell.epoch → u ≡ Some t → IsOwnedBy desk word t
-owner_named desk word t cell u cell_fields value is = sym (rw cell_fields at value) ∙ is
+  pub owner_named : (t : ℕ) (cell : Cell) (u : Option ℕ) → cell ≡ fields_of word → u ≡ owner_at (slot_of desk cell.sid).journal cell.epoch
+      → u ≡ Some t → IsOwnedBy desk word t
+  owner_named t cell u cell_fields value is = sym (rw cell_fields at value) ∙ is
 
 -- ---- in terms of the premise
 
 module _ (file : List ℕ) (d : Detected) (one : Awaited) (can : CanBeTold file d one) where
+  abbrev granules : ℕ
+  granules = granules_of file
+
+  -- a trace with the word's label has an access under it with the word on the granule
+  abbrev HasAccess : HeldTrace → Type 0
+  HasAccess x = has_label x (label_in one.word) ≡ true → IsSome (first_held x.held (label_in one.word) (granule_address file one.granule) one.word)
+
   cell_there : cell_in one.word ≡ Some (fields_of one.word)
   cell_there = word_cell (granules_of file) d one can.from can.leaving can.h can.stands can.owner can.restorable.slot can.restorable.bytes
 
@@ -199,7 +223,8 @@ module _ (file : List ℕ) (d : Detected) (one : Awaited) (can : CanBeTold file 
   owner_there desk same = record {
     cell = cell_there;
     tid = can.owner.tid;
-    owned = subst (λ (k : DeskContents). IsOwnedBy k one.word can.owner.tid) (sym same) (owner_is (granules_of file) d one can.from can.leaving can.h can.stands can.owner);
+    owned = subst (λ (k : DeskContents). IsOwnedBy k one.word can.owner.tid) (sym same)
+        (owner_is granules d one can.from can.leaving can.h can.stands can.owner);
   }
 
   module _ (desk : DeskContents) (t : ℕ) (desk_is : desk ≡ d.desk) (owned : IsOwnedBy desk one.word t) where
@@ -210,7 +235,8 @@ module _ (file : List ℕ) (d : Detected) (one : Awaited) (can : CanBeTold file 
     known_owner = let e = sym (owner_is (granules_of file) d one can.from can.leaving can.h can.stands can.owner) ∙ owned_here in cc
 
     pub watched_owner : t < length d.watchers
-    watched_owner = subst (λ (u : ℕ). u < length d.watchers) known_owner (owner_watched (granules_of file) d one can.from can.leaving can.h can.stands can.owner)
+    watched_owner = subst (λ (u : ℕ). u < length d.watchers) known_owner
+        (owner_watched granules d one can.from can.leaving can.h can.stands can.owner)
 
     module _ (trace : HeldTrace) (w : Watched) (trace_of : trace ≡ w.trace) (watcher_is : w ≡ watcher_of d t) where
       held : trace ≡ (watcher_of d t).trace
@@ -221,9 +247,10 @@ module _ (file : List ℕ) (d : Detected) (one : Awaited) (can : CanBeTold file 
         block = can.restorable.block;
         granule_is = can.restorable.granule_is;
         cell = cell_there;
-        stands = subst (λ (x : HeldTrace). has_label x (label_in one.word) ≡ true → IsSome (first_held x.held (label_in one.word) (granule_address file one.granule) one.word)) (sym held)
-            (can.restorable.stands t (watcher_of d t).trace (subst (λ (u : ℕ). IsLabelOf d.limits.epochs can.h u (label_in one.word)) known_owner can.owner.label_of)
-            (subst (λ (u : ℕ). IsTraceOf d.limits can.h u (watcher_of d u).trace) known_owner (trace_is (granules_of file) d one can.from can.leaving can.h can.stands can.owner)));
+        stands = subst HasAccess (sym held) (can.restorable.stands t (watcher_of d t).trace
+            (subst (λ (u : ℕ). IsLabelOf d.limits.epochs can.h u (label_in one.word)) known_owner can.owner.label_of)
+            (subst (λ (u : ℕ). IsTraceOf d.limits can.h u (watcher_of d u).trace) known_owner
+            (trace_is granules d one can.from can.leaving can.h can.stands can.owner)));
       }
 
       -- what the owner's trace tells is what each history tells

@@ -27,8 +27,8 @@ pub record HasOwnerAt (desk : DeskContents) (word : ℕ) : Type 0 where
   pub tid : ℕ
   pub owned : IsOwnedBy desk word tid
 
--- The granule is one of the file, and the word a cell's. Where the trace has the word's label, it has an access under it with
--- the word on the granule.
+-- The granule is one of the file, and the word a cell's. Where the trace has the word's label, it has an access
+-- under it with the word on the granule.
 pub record CanBeSought (file : List ℕ) (trace : HeldTrace) (granule word : ℕ) : Type 0 where
   pub block : ℕ
   pub granule_is : granule_of file (8 * block) ≡ Some granule

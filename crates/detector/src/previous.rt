@@ -6,7 +6,8 @@ ghost use Rattle.run_laws.specs.Moments.{Moment};
 ghost use Rattle.report_text.specs.Offers.{is_met, offers};
 ghost use Rattle.detector.specs.Detected.{Detected};
 ghost use Rattle.detector.specs.Stands.{Stands, awaited};
-ghost use Rattle.detector.specs.Told.{IsOwnedBy, HasOwnerAt, CanBeSought, side_in, CanBeTold, TellsPrevious, CanTellAll, TellsAll};
+ghost use Rattle.detector.specs.Told.{IsOwnedBy, HasOwnerAt, CanBeSought, side_in};
+ghost use Rattle.detector.specs.Told.{CanBeTold, TellsPrevious, CanTellAll, TellsAll};
 
 use crate::Detector;
 use elf_image::Image;

@@ -1,3 +1,5 @@
 pub mod Edges
 pub mod Held
 pub mod Texts
+pub mod Cycles
+pub mod Knots

@@ -1,16 +1,24 @@
 //! The order in which threads take mutexes. Where it has a cycle, another run may end in a deadlock.
 //!
 //! Below stand `run_record`, with histories, `run_laws`, with the locks that a thread keeps at each moment,
-//! `trace_parts`, whose laws of such locks the proofs use, and `report_text`, whose words for an address and a
-//! thread are used. `edges` lists each pair of mutexes of which one was taken while the other was kept;
-//! `cycle_text` writes a cycle of them. Nothing stands above yet.
+//! `trace_parts`, whose laws of such locks the proofs use, `report_text`, whose words for an address and a
+//! thread are used, and `graph_search`, whose `distances` are those of shortest ways from one mutex to another. `edges` lists
+//! each pair of mutexes of which one was taken while the other was kept; `cycles` gives for each knot of them, a set of which
+//! each reaches each, its first shortest cycle; `cycle_text` writes one, and `lock_text` all of a
+//! history. Nothing stands above yet.
 #![tactic(auto)]
 
 mod cycle;
 mod edge;
 mod held;
+mod knot;
+mod laws;
 #[cfg(test)]
 mod tests;
+mod text;
 
 pub use cycle::{Cycle, cycle_text};
 pub use edge::{Edge, Edges, edges};
+pub use knot::{Cycles, cycles};
+pub use laws::lock_text_law;
+pub use text::{LockText, lock_text};

@@ -26,12 +26,13 @@ either false side whole lost e = inr e
 apart : (granule_of : ℕ → Option ℕ) (address_of : ℕ → ℕ) → TellsAddresses granule_of address_of → (b c k : ℕ) → granule_of (8 * b) ≡ Some k → granule_of (8 * c) ≡ Some k → b ≡ c
 apart granule_of address_of tells b c k p q = let x = tells b k p in let y = tells c k q in omega arith
 
-module _ (limits : Limits) (granule_of : ℕ → Option ℕ) (address_of : ℕ → ℕ) (needs_slot : ℕ → Bool) (entries : List Entry) (sound : IsSound limits granule_of needs_slot entries) (rise : RoundsNeverFall entries)
-    (addresses : TellsAddresses granule_of address_of) where
+module _ (limits : Limits) (granule_of : ℕ → Option ℕ) (address_of : ℕ → ℕ) (needs_slot : ℕ → Bool) (entries : List Entry)
+    (sound : IsSound limits granule_of needs_slot entries) (rise : RoundsNeverFall entries) (addresses : TellsAddresses granule_of address_of) where
   abbrev Stands : Report → Type 0
   Stands = StandsForRace limits.epochs granule_of address_of (moments entries)
 
-  race_of : (n : ℕ) (c : Check) (w : ℕ) (report : Report) → IsCandidate limits.epochs (moments entries) n c w → IsReport limits address_of (moments entries) n c.granule w report → Stands report
+  race_of : (n : ℕ) (c : Check) (w : ℕ) (report : Report) → IsCandidate limits.epochs (moments entries) n c w
+      → IsReport limits address_of (moments entries) n c.granule w report → Stands report
   race_of n c w report k r =
       let m =
       conflicts limits granule_of needs_slot entries sound.few_slots sound.some_epochs sound.few_epochs (apart granule_of address_of addresses) sound.notes sound.checks sound.stores sound.loads n c w k r.first r.first_is r.tid r.other
@@ -77,7 +78,9 @@ module _ (limits : Limits) (granule_of : ℕ → Option ℕ) (address_of : ℕ �
       step false true = a
       step false false = All-append P k.reports (r ∷ []) a (All-cons P r [] (All-head P r found b) (All-nil P))
 
-  pub races_kept : (meets : Option (List ℕ) → Option (List ℕ) → Bool) (kept : Kept) → AreReports limits address_of meets (moments entries) kept → All Stands kept.reports
+  pub races_kept : (meets : Option (List ℕ) → Option (List ℕ) → Bool) (kept : Kept) → AreReports limits address_of meets (moments entries) kept
+      → All Stands kept.reports
   races_kept meets kept are =
       subst (λ (k : Kept). All Stands k.reports) (sym are.kept_is)
-      (kept_among Stands meets (record { reports = []; suppressed = 0; equal = 0 }) are.found (All-nil Stands) (races_of (length (moments entries)) are.found are.found_all))
+      (kept_among Stands meets (record { reports = []; suppressed = 0; equal = 0 }) are.found (All-nil Stands)
+      (races_of (length (moments entries)) are.found are.found_all))

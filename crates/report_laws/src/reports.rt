@@ -25,8 +25,8 @@ pub fn reports_law()
 
 /// Each report that is found stands for a race, where rounds never fall.
 pub fn stands_law()
-    ensures { (limits : Limits) (granule_of : ℕ → Option ℕ) (address_of : ℕ → ℕ) (needs_slot : ℕ → Bool)
-        (entries : List Entry)
+    ensures { (limits : Limits) (granule_of : ℕ → Option ℕ) (address_of : ℕ → ℕ)
+        (needs_slot : ℕ → Bool) (entries : List Entry)
         → IsSound limits granule_of needs_slot entries → RoundsNeverFall entries
         → TellsAddresses granule_of address_of
         → (n : ℕ) (found : List Report) → Finds limits address_of (moments entries) n found
@@ -35,8 +35,8 @@ pub fn stands_law()
 
 /// So do the reports that are kept.
 pub fn races_law()
-    ensures { (limits : Limits) (granule_of : ℕ → Option ℕ) (address_of : ℕ → ℕ) (needs_slot : ℕ → Bool)
-        (entries : List Entry)
+    ensures { (limits : Limits) (granule_of : ℕ → Option ℕ) (address_of : ℕ → ℕ)
+        (needs_slot : ℕ → Bool) (entries : List Entry)
         → IsSound limits granule_of needs_slot entries → RoundsNeverFall entries
         → TellsAddresses granule_of address_of
         → (meets : Option (List ℕ) → Option (List ℕ) → Bool) (kept : Kept)

@@ -36,11 +36,13 @@ precedes s t u v apart sorted =
       | inr h ↦ elim h [ inl l ↦ inl l | inr g ↦ absurd (grind (arith, nat_tests)) ]
     ]
 
-pub AreOrdered-from_sort : (logged sorted : List Entry) → AreDistinct logged → IsPermutation logged sorted → IsSortedByKey (λ (e : Entry). (e.stamp, e.tid)) compare_keys sorted → AreOrdered sorted
+pub AreOrdered-from_sort : (logged sorted : List Entry) → AreDistinct logged → IsPermutation logged sorted →
+    IsSortedByKey (λ (e : Entry). (e.stamp, e.tid)) compare_keys sorted → AreOrdered sorted
 AreOrdered-from_sort logged sorted distinct moved ascends =
     let apart = IsDistinct-from_apart same_place logged (λ i j d p q. differ _ _ _ _ (distinct i j d p q)) in
     let still = IsDistinct-IsPermutation same_place (λ x y. flips x.stamp y.stamp x.tid y.tid) logged sorted moved apart in
-    let order = ranks_by (then_total (on_total (λ (x : ℕ × ℕ). x.0) nat_cmp_total) (on_total (λ (x : ℕ × ℕ). x.1) nat_cmp_total)) (λ (e : Entry). (e.stamp, e.tid)) in
+    let order = ranks_by (then_total (on_total (λ (x : ℕ × ℕ). x.0) nat_cmp_total) (on_total (λ (x : ℕ × ℕ). x.1) nat_cmp_total))
+    (λ (e : Entry). (e.stamp, e.tid)) in
     λ i j d p q. precedes _ _ _ _ (apart_from_distinct same_place sorted i j d still p q) (sorted_far _ order sorted ascends i j d (omega arith) q)
 
 -- where nothing is left, what is joined is all

@@ -23,13 +23,23 @@ checks_of n [] words = []
 checks_of n (c ∷ checks) words = check_of c (first_at n c.word words) ∷ checks_of (suc n) checks (rest_at n words)
 
 abbrev pub entry_of : Head → DeskNote → List Event → List Check → Entry
-entry_of h note events checks = record { round = h.round; era = h.era; stamp = h.stamp; tid = h.tid; steps = h.steps; note = note; events = events; checks = checks }
+entry_of h note events checks = record {
+  round = h.round;
+  era = h.era;
+  stamp = h.stamp;
+  tid = h.tid;
+  steps = h.steps;
+  note = note;
+  events = events;
+  checks = checks;
+}
 
 -- the entries from that number on, whose events and checks follow one another
 abbrev pub entries_of : ℕ → List Row → List (Mark DeskNote) → List Event → List Check → List Entry
 entries_of n [] notes events checks = []
 entries_of n (r ∷ rows) notes events checks =
-    entry_of r.head (first_at n Nothing notes) (take r.events events) (take r.checks checks) ∷ entries_of (suc n) rows (rest_at n notes) (drop r.events events) (drop r.checks checks)
+    entry_of r.head (first_at n Nothing notes) (take r.events events) (take r.checks checks) ∷ entries_of (suc n) rows (rest_at n notes)
+    (drop r.events events) (drop r.checks checks)
 
 -- the word that was stored, or else the check's own
 abbrev pub stored_word : ℕ → Option (ℕ × ℕ) → ℕ

@@ -81,7 +81,8 @@ module _ (words : List (String Global)) (before after reads more : ℕ) (failed 
       others_run =
           subst (λ (r : RequestText). IsRun (mode_of r.task) a.bytes r.limits r.plan (suppressed_by a.run.rules a.bytes) other) (sym request)
           (subst (λ (bs : List ℕ). IsRun (mode_of b.request.task) bs b.request.limits b.request.plan (suppressed_by a.run.rules bs) other) (sym bytes)
-          (subst (λ (rs : List Rule). IsRun (mode_of b.request.task) b.bytes b.request.limits b.request.plan (suppressed_by rs b.bytes) other) (sym rules) b.run.is_run))
+          (subst (λ (rs : List Rule). IsRun (mode_of b.request.task) b.bytes b.request.limits b.request.plan (suppressed_by rs b.bytes) other)
+          (sym rules) b.run.is_run))
 
       finished : f ≡ other
       finished =

@@ -17,7 +17,8 @@ use Rattle.same_run.proofs.Machine.{leave_labels}
 same_finished : (f other : Finished) → f.history.entries ≡ other.history.entries → kept_in f ≡ kept_in other → f.output ≡ other.output → f.last ≡ other.last → f ≡ other
 same_finished f other h k o l = λ i. record { history = record { entries = h i }; reports = (k i).reports; suppressed = (k i).suppressed; equal = (k i).equal; output = o i; last = l i }
 
-pub same_run : (file : List ℕ) (limits : Limits) (plan : List Turn) (meets : Option (List ℕ) → Option (List ℕ) → Bool) (f other : Finished) → 1 ≤ limits.harts → IsRun OneByOne file limits plan meets f → IsRun OneByOne file limits plan meets other → f ≡ other
+pub same_run : (file : List ℕ) (limits : Limits) (plan : List Turn) (meets : Option (List ℕ) → Option (List ℕ) → Bool) (f other : Finished)
+    → 1 ≤ limits.harts → IsRun OneByOne file limits plan meets f → IsRun OneByOne file limits plan meets other → f ≡ other
 same_run file limits plan meets f other some a b =
     let local = leave_labels file limits.harts some in
     let same = one limits (bare_of file limits.harts) (granule_of file) plan local f.history.entries other.history.entries a.lawful b.lawful in

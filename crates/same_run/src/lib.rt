@@ -29,7 +29,8 @@ pub fn machine_law()
 /// reports, counts, output and last state.
 pub fn same_run_law()
     ensures { (file : List ℕ) (limits : Limits) (plan : List Turn) (meets : Option (List ℕ) → Option (List ℕ) → Bool) (f other : Finished) → 1 ≤ limits.harts →
-        IsRun OneByOne file limits plan meets f → IsRun OneByOne file limits plan meets other → f ≡ other }
+        IsRun OneByOne file limits plan meets f → IsRun OneByOne file limits plan meets other
+        → f ≡ other }
 {}
 
 /// Two calls that are done, with the same words and with the same bytes on their sinks before, keep the same run, and

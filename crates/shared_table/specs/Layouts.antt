@@ -53,7 +53,8 @@ IsFirstStripe image limits k (Some (Stripe s)) =
 abbrev pub IsFirstDesk : List ℕ → Limits → Option Object → Type 0
 IsFirstDesk image limits None = ⊥
 IsFirstDesk image limits (Some (Stripe s)) = ⊥
-IsFirstDesk image limits (Some (Desk d)) = d.value ≡ record { desk = new_desk limits; machine = first_desk (entry image); last = 0 }
+IsFirstDesk image limits (Some (Desk d)) =
+    d.value ≡ record { desk = new_desk limits; machine = first_desk (entry image); last = 0 }
 
 -- a table of these limits over an image: 64 stripes and the desk, as they begin
 pub record IsLaidOut (image : List ℕ) (limits : Limits) (lay : Layout) : Type 0 where

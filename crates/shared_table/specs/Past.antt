@@ -28,11 +28,12 @@ Past = List (ℕ × Item)
 abbrev pub IsDeskOf : Limits → DeskContents → Type 0
 IsDeskOf limits d = (d.harts ≡ limits.harts) × (d.greatest ≡ limits.epochs) × (length d.slots ≡ limits.slots)
 
--- the machine has each thread that the desk has, and room for 1,024
+-- the machine has as many threads as the desk has, at most 1,024
 abbrev pub HasThreads : DeskState → Type 0
 HasThreads d = (length d.machine.made ≡ d.desk.made) × (d.desk.made ≤ 1024)
 
--- A stripe has a word for each granule of its number, and synchronisation objects for the slots of the run. The object 64 is a desk for the limits of the run, with as many threads as the machine has made.
+-- A stripe has a word for each granule of its number, and synchronisation objects for the slots of the run.
+-- The object 64 is a desk for the limits of the run, with as many threads as the machine has made.
 abbrev pub IsSound : Layout → ℕ → Object → Type 0
 IsSound lay k (Stripe s) = (k < 64) × (length s.value.words ≡ slice_index lay.sizes k) × (s.value.sync.slots ≡ lay.limits.slots)
 IsSound lay k (Desk d) = (k ≡ 64) × IsDeskOf lay.limits d.value.desk × HasThreads d.value

@@ -213,7 +213,8 @@ pub fn run_plan<S: Suppressions>(
     suppressions: &S,
 ) -> Result<Finished, NoMemory>
     requires { AreLimits limits.now }
-    ensures { IfOk result (IsRun OneByOne image.now limits.now plan.now (is_met (S.rule_met suppressions.now))) }
+    ensures { let meets = is_met (S.rule_met suppressions.now) in
+        IfOk result (IsRun OneByOne image.now limits.now plan.now meets) }
 {
     image.accepted();
     let mut engine = Engine::new(alloc, image, limits)?;

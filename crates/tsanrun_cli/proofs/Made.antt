@@ -9,7 +9,8 @@ use Rattle.tsanrun_cli.specs.Ends.{Call, served, one_by_one, IsExecutable, AreRu
 use Rattle.tsanrun_cli.specs.Work.{HasRun, IsTold}
 
 -- a call whose words ask for a made program runs it without rules
-pub made_run : (call : Call) (asked : Result RequestText UsageFault) (request : RequestText) (seed size : ℕ) (t : Told) → call.asked ≡ served asked → asked ≡ Ok request → request.task ≡ generate seed size
+pub made_run : (call : Call) (asked : Result RequestText UsageFault) (request : RequestText) (seed size : ℕ) (t : Told)
+    → call.asked ≡ served asked → asked ≡ Ok request → request.task ≡ generate seed size
     → IsTold request (program seed size) [] t × (image_of (program seed size) ≡ Ok (program seed size)) → HasRun call t
 made_run call asked request seed size t call_asks is task told = record {
   request = request;

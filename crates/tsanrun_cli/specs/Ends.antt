@@ -114,7 +114,8 @@ pub record Serves (call : Call) (request : RequestText) (bytes : List ℕ) (rule
 abbrev pub suppressed_by : List Rule → List ℕ → Option (List ℕ) → Option (List ℕ) → Bool
 suppressed_by rules bytes = is_met (λ mine previous. first_met rules (frame_in (tables_of bytes)) (places_of mine) (places_of previous))
 
--- What is kept is a run that the call serves, in its mode, by its limits and its plan. Each of its reports stands for a race.
+-- What is kept is a run that the call serves, in its mode, by its limits and its plan. Each of its reports stands
+-- for a race.
 pub record IsRunOf (call : Call) (request : RequestText) (bytes : List ℕ) (f : Finished) : Type 0 where
   pub rules : List Rule
   pub serves : Serves call request bytes rules

@@ -121,7 +121,8 @@ fn run_named(
 ) -> Result<Finished, NoMemory>
     requires limits { AreLimits request.now.limits }
     requires names { names.now ≡ tables_of image.now }
-    ensures { IfOk result (IsRun OneByOne image.now request.now.limits request.now.plan (suppressed_by rules.now image.now)) }
+    ensures { let meets = suppressed_by rules.now image.now in
+        IfOk result (IsRun OneByOne image.now request.now.limits request.now.plan meets) }
 {
     let suppressions = NamedRules { rules, names };
     run_plan(alloc, image, &request.limits, &request.plan, &suppressions)

@@ -101,7 +101,8 @@ all_loaded : (cs : List Check) → map plain_of (flat_map (λ (c : Check). map (
 all_loaded [] = refl
 all_loaded (c ∷ cs) = map-append plain_of (map (λ (w : ℕ). (c, w)) c.cells) (flat_map (λ (c : Check). map (λ (w : ℕ). (c, w)) c.cells) cs) ∙ ap₂ (λ (xs ys : List (Checked × ℕ)). xs ++ ys) (one_loaded c c.cells) (all_loaded cs)
 
-race_right : (g : ℕ) (h : List Moment) (n t : ℕ) (clock : ℕ → ℕ) (checks : List Checked) → clock ≡ (clocks g (items h) n).thread t → map checked_of (moment_at h n).checks ≡ checks
+race_right : (g : ℕ) (h : List Moment) (n t : ℕ) (clock : ℕ → ℕ) (checks : List Checked) → clock ≡ (clocks g (items h) n).thread t
+    → map checked_of (moment_at h n).checks ≡ checks
     → race_in clock checks ≡ option_map plain_of (race_by_clock g h n t)
 race_right g h n t clock checks same e =
     ap (λ (k : ℕ → ℕ). race_in k checks) same
@@ -113,7 +114,8 @@ race_right g h n t clock checks same e =
 with_side : (h : List Moment) (n t : ℕ) (w : Watch) → w.frames ≡ frames h n t → w.locks ≡ kept_locks h n t →
     (o : Option (Check × ℕ)) → option_map (raced_by w) (option_map plain_of o) ≡ option_map (raced_at h n t) o
 with_side h n t w f k None = refl
-with_side h n t w f k (Some l) = ap₂ (λ (fs : List ℕ) (ls : List KeptLock). Some (record { check = checked_of l.0; word = l.1; frames = fs; locks = ls })) f k
+with_side h n t w f k (Some l) =
+    ap₂ (λ (fs : List ℕ) (ls : List KeptLock). Some (record { check = checked_of l.0; word = l.1; frames = fs; locks = ls })) f k
 
 pub raced_right : (g : ℕ) (h : List Moment) (n t : ℕ) (w : Watch) (clock : ℕ → ℕ) (checks : List Checked) → HasWatch g h n t w
     → clock ≡ (clocks g (items h) n).thread t → map checked_of (moment_at h n).checks ≡ checks

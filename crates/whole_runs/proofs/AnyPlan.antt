@@ -19,51 +19,58 @@ module _ {S : Type 0} (limits : Limits) (bare : Bare S) where
   in_round : (p : Progress) (turns : List Turn) (ds : List Due) (e : Entry) → IsInRound p ds e → IsInRound (but_turns p turns) ds e
   in_round p turns ds e i = record { round = i.round; era = i.era; due = i.due }
 
-  makes_due : (p : Progress) (turns : List Turn) (part : List Entry) (d : Due) → MakesDue AtOnce limits bare p part d → MakesDue AtOnce limits bare (but_turns p turns) part d
+  makes_due : (p : Progress) (turns : List Turn) (part : List Entry) (d : Due) → MakesDue AtOnce limits bare p part d
+      → MakesDue AtOnce limits bare (but_turns p turns) part d
   makes_due p turns part d m = record { no_more = m.no_more; fewer = m.fewer }
 
   is_round : (p : Progress) (turns : List Turn) (part : List Entry) → IsRound AtOnce limits bare p part → IsRound AtOnce limits bare (but_turns p turns) part
-  is_round p turns part r = record {
-    entries = All-weaker (IsInRound p (dues AtOnce limits bare p)) (IsInRound (but_turns p turns) (dues AtOnce limits bare p)) (in_round p turns (dues AtOnce limits bare p)) part r.entries;
-    made = All-weaker (MakesDue AtOnce limits bare p part) (MakesDue AtOnce limits bare (but_turns p turns) part) (makes_due p turns part) (dues AtOnce limits bare p) r.made;
-  }
-
-  -- by another plan a run comes as far, with other turns left
-  reaches : (plan other : List Turn) (p : Progress) → Reaches AtOnce limits bare plan p → (turns : List Turn) × Reaches AtOnce limits bare other (but_turns p turns)
-  reaches plan other _ Start = (other, Start)
-  reaches plan other _ (Round p part r on some round) =
-      let before = reaches plan other p r in
-      (turns_after bare (but_turns p before.0), Round (but_turns p before.0) part before.1 on some (is_round p before.0 part round))
-
-  whole_run : (plan other : List Turn) (entries : List Entry) (last : LastState) → IsWholeRun AtOnce limits plan bare entries last → IsWholeRun AtOnce limits other bare entries last
-  whole_run plan other entries last w =
-      let r = reaches plan other w.progress w.reached in
+  is_round p turns part r =
+      let q = but_turns p turns in
+      let ds = dues AtOnce limits bare p in
       record {
-        progress = but_turns w.progress r.0;
-        reached = r.1;
-        history_is = w.history_is;
-        ends = w.ends;
-        threads_are = w.threads_are;
-        rounds_are = w.rounds_are;
-        era_is = w.era_is;
+        entries = All-weaker (IsInRound p ds) (IsInRound q ds) (in_round p turns ds) part r.entries;
+        made = All-weaker (MakesDue AtOnce limits bare p part) (MakesDue AtOnce limits bare q part) (makes_due p turns part) ds r.made;
       }
 
-  lawful_history : (granule_of : ℕ → Option ℕ) (plan other : List Turn) (entries : List Entry) → IsLawful AtOnce limits plan bare granule_of entries → IsLawful AtOnce limits other bare granule_of entries
-  lawful_history granule_of plan other entries l = record {
-    faithful = l.faithful;
-    last = l.last;
-    rounds = whole_run plan other entries l.last l.rounds;
-    labelled = l.labelled;
-    notes = l.notes;
-    checks = l.checks;
-    stores = l.stores;
-    loads = l.loads;
-    loads_last = l.loads_last;
-  }
+  module _ (plan other : List Turn) where
+    -- by another plan a run comes as far, with other turns left
+    reaches : (p : Progress) → Reaches AtOnce limits bare plan p → (turns : List Turn) × Reaches AtOnce limits bare other (but_turns p turns)
+    reaches _ Start = (other, Start)
+    reaches _ (Round p part r on some round) =
+        let before = reaches p r in
+        (turns_after bare (but_turns p before.0), Round (but_turns p before.0) part before.1 on some (is_round p before.0 part round))
 
-pub any_plan : (file : List ℕ) (limits : Limits) (plan other : List Turn) (meets : Option (List ℕ) → Option (List ℕ) → Bool) (f : Finished) → IsRun AtOnce file limits plan meets f → IsRun AtOnce file limits other meets f
+    module _ (entries : List Entry) where
+      whole_run : (last : LastState) → IsWholeRun AtOnce limits plan bare entries last → IsWholeRun AtOnce limits other bare entries last
+      whole_run last w =
+          let r = reaches w.progress w.reached in
+          record {
+            progress = but_turns w.progress r.0;
+            reached = r.1;
+            history_is = w.history_is;
+            ends = w.ends;
+            threads_are = w.threads_are;
+            rounds_are = w.rounds_are;
+            era_is = w.era_is;
+          }
+
+      lawful_history : (granule_of : ℕ → Option ℕ) → IsLawful AtOnce limits plan bare granule_of entries → IsLawful AtOnce limits other bare granule_of entries
+      lawful_history granule_of l = record {
+        faithful = l.faithful;
+        last = l.last;
+        rounds = whole_run l.last l.rounds;
+        labelled = l.labelled;
+        notes = l.notes;
+        checks = l.checks;
+        stores = l.stores;
+        loads = l.loads;
+        loads_last = l.loads_last;
+      }
+
+pub any_plan : (file : List ℕ) (limits : Limits) (plan other : List Turn) (meets : Option (List ℕ) → Option (List ℕ) → Bool) (f : Finished)
+    → IsRun AtOnce file limits plan meets f → IsRun AtOnce file limits other meets f
 any_plan file limits plan other meets f run = record {
-  lawful = lawful_history limits _ _ plan other f.history.entries run.lawful;
+  lawful = lawful_history limits _ plan other f.history.entries _ run.lawful;
   whole = whole_run limits _ plan other f.history.entries f.last run.whole;
   reports = run.reports;
   races = run.races;

@@ -15,11 +15,11 @@ use Rattle.machine_laws.specs.Machine.{bare_of}
 abbrev pub kept_in : Finished → Kept
 kept_in f = record { reports = f.reports; suppressed = f.suppressed; equal = f.equal }
 
--- What is kept is a run of the file in that mode, by the limits, and by the plan where threads are stepped one at a time,
--- with rules that two stacks may meet. Its history is lawful and that of a whole run, which came to that last state. Its
--- reports are those of the history, and each stands for a race: two accesses that conflict, neither of which happens
--- before the other, and the first of which isn't earlier than the second. Its output is that of the bare machine over the
--- history's instructions.
+-- What is kept is a run of the file in that mode, by the limits, and by the plan where threads are stepped one at
+-- a time, with rules that two stacks may meet. Its history is lawful and that of a whole run, which came to that
+-- last state. Its reports are those of the history, and each stands for a race: two accesses that conflict, neither
+-- of which happens before the other, and the first of which isn't earlier than the second. Its output is that of
+-- the bare machine over the history's instructions.
 pub record IsRun
     (mode : Mode) (file : List ℕ) (limits : Limits) (plan : List Turn)
     (meets : Option (List ℕ) → Option (List ℕ) → Bool) (f : Finished) : Type 0 where

@@ -8,8 +8,8 @@ use Rattle.run_laws.specs.Moments.{moments}
 use Rattle.run_laws.specs.Reports.{Kept, Finds, kept_of}
 use Rattle.report_text.specs.Offers.{offers}
 
--- All reports of the entries were offered, one after another, by the rules that two stacks may meet. There are at most as many
--- as moments.
+-- All reports of the entries were offered, one after another, by the rules that two stacks may meet. There are
+-- at most as many as moments.
 pub record Told
     (meets : Option (List ℕ) → Option (List ℕ) → Bool) (file : List ℕ) (limits : Limits) (entries : List Entry)
     (reporter : Kept) : Type 0 where

@@ -17,11 +17,13 @@ lost_side-requires-clause-room c =
 pub returns-in-Found : goal.returns-in-Found
 returns-in-Found c =
     let same = sought_cell _ _ _ _ c.requires c.in-Some.cell c.unpack.result c.unpack.ensures.value c.in-Some.is in
-    side_found _ _ _ _ c.requires c.in-Some.cell c.granule_address-address.result _ c.in_ok-addr.field-0 same c.granule_address-address.ensures c.in_ok-addr.ensures.found
+    side_found _ _ _ _ c.requires c.in-Some.cell c.granule_address-address.result _ c.in_ok-addr.field-0 same
+    c.granule_address-address.ensures c.in_ok-addr.ensures.found
     c.in-Found.place c.in-Found.addr c.in-Found.size c.in-Found.stack c.in-Found.locks c.in-Found.is
 
 pub returns-in-Lost : goal.returns-in-Lost
 returns-in-Lost c =
     let same = sought_cell _ _ _ _ c.requires c.in-Some.cell c.unpack.result c.unpack.ensures.value c.in-Some.is in
-    side_lost _ _ _ _ c.requires c.in-Some.cell c.granule_address-address.result _ c.in_ok-addr.field-0 same c.granule_address-address.ensures c.in_ok-addr.ensures.found
+    side_lost _ _ _ _ c.requires c.in-Some.cell c.granule_address-address.result _ c.in_ok-addr.field-0 same
+    c.granule_address-address.ensures c.in_ok-addr.ensures.found
     c.lost_side.result c.in-Lost.is c.lost_side.ensures

@@ -7,7 +7,8 @@ use Rattle.run_record.proofs.flat.put_check.Goals as goal
 use Rattle.run_record.proofs.flat.put_check.Goals.{After-put}
 
 -- the word is marked by the check's number
-marked : (c : After-put) → c.put_word.new.words.items ≡ c.args.words.now.items ++ word_marks (length c.args.checks.now.items) c.args.check.now.word c.args.check.now.stored
+marked : (c : After-put) → c.put_word.new.words.items ≡ c.args.words.now.items ++ word_marks
+    (length c.args.checks.now.items) c.args.check.now.word c.args.check.now.stored
 marked c =
     c.put_word.ensures.items
     ∙ ap (λ (n : ℕ). c.args.words.now.items ++ word_marks n c.args.check.now.word c.args.check.now.stored) (c.len.ensures ∙ c.args.checks.now.ok.0)
@@ -17,11 +18,14 @@ returns-clause-used c =
     let n = length c.args.checks.now.items in
     let check = c.args.check.now in
     subst (λ (words : List (Mark ℕ)). AreUsed 0 (length c.put.new.items.items) words) (sym (marked c))
-    (put_check-used c.args.checks.now.items c.put.new.items.items c.kept_check.result c.args.words.now.items (word_marks n check.word check.stored) c.put.ensures.items c.requires.used (word_marks-of n check.word check.stored))
+    (put_check-used c.args.checks.now.items c.put.new.items.items c.kept_check.result c.args.words.now.items
+    (word_marks n check.word check.stored) c.put.ensures.items c.requires.used (word_marks-of n check.word check.stored))
 
 pub returns-clause-checks : goal.returns-clause-checks
 returns-clause-checks c =
     let n = length c.args.checks.now.items in
     let check = c.args.check.now in
     ap (checks_of 0 c.put.new.items.items) (marked c)
-    ∙ put_check-checks c.args.checks.now.items c.put.new.items.items c.kept_check.result check c.args.words.now.items (word_marks n check.word check.stored) c.put.ensures.items c.requires.used (λ i. word_marks n check.word check.stored) c.kept_check.ensures.word c.kept_check.ensures.check
+    ∙ put_check-checks c.args.checks.now.items c.put.new.items.items c.kept_check.result check c.args.words.now.items
+    (word_marks n check.word check.stored) c.put.ensures.items c.requires.used
+    (λ i. word_marks n check.word check.stored) c.kept_check.ensures.word c.kept_check.ensures.check

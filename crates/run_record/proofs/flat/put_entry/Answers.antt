@@ -13,9 +13,11 @@ row_of c = record { head = c.args.head; events = length c.args.events.now; check
 
 pub returns-clause-whole : goal.returns-clause-whole
 unfolding row_of
-returns-clause-whole c = push_whole _ _ (row_of c) _ _ _ _ _ _ _ _ _ _ _ c.requires.whole c.put.ensures.items (notes_are c) c.put_all.ensures.items c.put_checks.ensures.checks refl refl c.put_checks.ensures.used
+returns-clause-whole c = push_whole _ _ (row_of c) _ _ _ _ _ _ _ _ _ _ _ c.requires.whole c.put.ensures.items
+    (notes_are c) c.put_all.ensures.items c.put_checks.ensures.checks refl refl c.put_checks.ensures.used
 
 pub returns-clause-entries : goal.returns-clause-entries
 unfolding row_of
 returns-clause-entries c =
-    push_entry _ _ (row_of c) _ _ c.args.note _ _ _ _ _ _ _ _ c.requires.whole c.put.ensures.items (notes_are c) c.put_all.ensures.items c.put_checks.ensures.checks refl refl
+    push_entry _ _ (row_of c) _ _ c.args.note _ _ _ _ _ _ _ _ c.requires.whole c.put.ensures.items
+    (notes_are c) c.put_all.ensures.items c.put_checks.ensures.checks refl refl

@@ -12,11 +12,14 @@ loop-log-preserved c = rw (c.in_ok-copy_to.ensures, append_assoc) (rw c.in-Some.
 
 pub returns-clause-same : goal.returns-clause-same
 returns-clause-same c =
-    let all : c.loop-log.entries.items ≡ entries_in c.args.logs.items = all_joined _ _ _ c.loop-log.invariant (sym c.loop-log.log-iterator.rest.ok.0 ∙ c.in-None.ensures.steps.0) in
+    let all : c.loop-log.entries.items ≡ entries_in c.args.logs.items = all_joined _ _ _ c.loop-log.invariant
+    (sym c.loop-log.log-iterator.rest.ok.0 ∙ c.in-None.ensures.steps.0) in
     rw (c.in_ok-joined.ensures ∙ c.deref.ensures.value, ← all) c.in_ok-sort_by_key.ensures.permutation
 
 pub returns-clause-ordered : goal.returns-clause-ordered
 returns-clause-ordered c =
-    let all : c.loop-log.entries.items ≡ entries_in c.args.logs.items = all_joined _ _ _ c.loop-log.invariant (sym c.loop-log.log-iterator.rest.ok.0 ∙ c.in-None.ensures.steps.0) in
+    let all : c.loop-log.entries.items ≡ entries_in c.args.logs.items = all_joined _ _ _ c.loop-log.invariant
+    (sym c.loop-log.log-iterator.rest.ok.0 ∙ c.in-None.ensures.steps.0) in
     let ascends = c.in_ok-sort_by_key.ensures.sorted (λ e. (e.stamp, e.tid)) (answers_always _ _ _ (λ f a r g h. search rules)) in
-    rw (c.in_ok-joined.ensures ∙ c.deref.ensures.value) (AreOrdered-from_sort c.loop-log.entries.items _ (rw all c.requires) c.in_ok-sort_by_key.ensures.permutation ascends)
+    rw (c.in_ok-joined.ensures ∙ c.deref.ensures.value)
+    (AreOrdered-from_sort c.loop-log.entries.items _ (rw all c.requires) c.in_ok-sort_by_key.ensures.permutation ascends)

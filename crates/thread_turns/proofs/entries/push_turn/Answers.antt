@@ -11,5 +11,6 @@ returns-clause-ok c =
     let before = c.args.entries.now in
     let part = c.args.part.now in
     let turn = made_turn c.args.round c.args.era c.args.tid part in
-    let same = (λ i. entries_between (record (first_head (length before) turn) { stamp = c.len.ensures i + 1 }) part.attached (c.as_slice.ensures i) (c.as_slice-2.ensures i) part.spent) ∙ pushed_are (length before) turn in
+    let same = (λ i. entries_between (record (first_head (length before) turn) { stamp = c.len.ensures i + 1 }) part.attached (c.as_slice.ensures i)
+    (c.as_slice-2.ensures i) part.spent) ∙ pushed_are (length before) turn in
     subst (λ (more : List Entry). OnOk c.push_between.result (c.push_between.new.self ≡ before ++ more)) same c.push_between.ensures.ok

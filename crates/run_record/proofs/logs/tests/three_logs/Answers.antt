@@ -15,15 +15,18 @@ Differ d e = ((d.stamp ≡ e.stamp) × (d.tid ≡ e.tid)) → ⊥
 distinct : (a b c d : Entry) → IsAt a 2 2 → IsAt b 1 0 → IsAt c 3 0 → IsAt d 2 1 → AreDistinct (a ∷ b ∷ c ∷ d ∷ [])
 unfolding Differ
 distinct a b c d at_a at_b at_c at_d =
-    let with_a : All (Differ a) (b ∷ c ∷ d ∷ []) = All-cons (Differ a) b (c ∷ d ∷ []) (λ h. omega arith) (All-cons (Differ a) c (d ∷ []) (λ h. omega arith) (All-cons (Differ a) d [] (λ h. omega arith) (All-nil (Differ a)))) in
-    let with_b : All (Differ b) (c ∷ d ∷ []) = All-cons (Differ b) c (d ∷ []) (λ h. omega arith) (All-cons (Differ b) d [] (λ h. omega arith) (All-nil (Differ b))) in
+    let with_a : All (Differ a) (b ∷ c ∷ d ∷ []) = All-cons (Differ a) b (c ∷ d ∷ []) (λ h. omega arith)
+    (All-cons (Differ a) c (d ∷ []) (λ h. omega arith) (All-cons (Differ a) d [] (λ h. omega arith) (All-nil (Differ a)))) in
+    let with_b : All (Differ b) (c ∷ d ∷ []) = All-cons (Differ b) c (d ∷ []) (λ h. omega arith)
+    (All-cons (Differ b) d [] (λ h. omega arith) (All-nil (Differ b))) in
     let with_c : All (Differ c) (d ∷ []) = All-cons (Differ c) d [] (λ h. omega arith) (All-nil (Differ c)) in
     let last : AllPairs Differ (d ∷ []) = λ i j e p q. absurd (omega arith) in
     AllPairs-cons Differ a (b ∷ c ∷ d ∷ []) with_a (AllPairs-cons Differ b (c ∷ d ∷ []) with_b (AllPairs-cons Differ c (d ∷ []) with_c last))
 
 -- the entries that were put into three logs
 distinct_logs :
-    (logs : List (List Entry)) (m n o f g s t : List Entry) (a b c d : Entry) → m ≡ [] → n ≡ m ++ b ∷ [] → o ≡ n ++ c ∷ [] → f ≡ [] → g ≡ f ++ d ∷ [] → s ≡ [] → t ≡ s ++ a ∷ [] → logs ≡ t ∷ o ∷ g ∷ [] →
+    (logs : List (List Entry)) (m n o f g s t : List Entry) (a b c d : Entry) → m ≡ [] → n ≡ m ++ b ∷ [] → o ≡ n ++ c ∷ [] → f ≡ [] → g ≡ f ++ d ∷ [] →
+    s ≡ [] → t ≡ s ++ a ∷ [] → logs ≡ t ∷ o ∷ g ∷ [] →
     IsAt a 2 2 → IsAt b 1 0 → IsAt c 3 0 → IsAt d 2 1 → AreDistinct (entries_in logs)
 distinct_logs logs m n o f g s t a b c d m_is n_is o_is f_is g_is s_is t_is logs_are at_a at_b at_c at_d =
     rw (logs_are, o_is, n_is, m_is, g_is, f_is, t_is, s_is) (distinct a b c d at_a at_b at_c at_d)

@@ -1,0 +1,104 @@
+-- The links of a node stand side by side.
+use Rattle.std.proofs.Common.{◌≡◌, ℕ, ◌+◌, ◌-◌, ◌<◌, ◌≤◌, List, [], ◌∷◌, ◌++◌, length, get_or, take, drop, sym, ap, ◌∙◌, subst, inl, inr, arith}
+use Rattle.std.specs.List.{All}
+use Rattle.std.specs.List.Sorted.{IsPartitionPoint}
+use Rattle.std.proofs.lemmas.Bool.{cases_lt}
+use Rattle.std.proofs.lemmas.List.{length-take, length-drop, get_or-take, get_or-drop, get_or_append_left, get_or_push, length_push}
+use Rattle.graph_search.specs.declared.graph.Link.{Link}
+use Rattle.graph_search.specs.Graphs.{IsWithin, AreStarts, AreFrom}
+use Rattle.graph_search.specs.Searches.{at}
+
+abbrev nothing : Link
+nothing = record { from = 0; to = 0 }
+
+pub starts_rise : (nodes n : ℕ) (links : List Link) (starts : List ℕ) → AreStarts nodes links starts → n < nodes → at starts n ≤ at starts (n + 1)
+starts_rise nodes n links starts s l = elim (cases_lt (at starts (n + 1)) (at starts n)) [
+  | inl less ↦
+      let i = at starts (n + 1) in
+      let w = s.within n (omega arith) in
+      let below : (get_or links i nothing).from < n = (s.parts n (omega arith)).0 i nothing (omega arith) less in
+      let above : n + 1 ≤ (get_or links i nothing).from = (s.parts (n + 1) (omega arith)).1 i nothing (omega arith) (omega arith) in
+      absurd (omega arith)
+  | inr up ↦ up
+]
+
+abbrev pub part : List Link → List ℕ → ℕ → List Link
+part links starts n = take (at starts (n + 1) - at starts n) (drop (at starts n) links)
+
+module _ (nodes n : ℕ) (links : List Link) (starts : List ℕ) (s : AreStarts nodes links starts) (l : n < nodes) where
+  long : length (part links starts n) ≡ at starts (n + 1) - at starts n
+  long =
+      let w = s.within (n + 1) (omega arith) in
+      let d = length-drop (at starts n) links in
+      omega (arith, length-take (at starts (n + 1) - at starts n) (drop (at starts n) links))
+
+  read : (k : ℕ) (d : Link) → k < at starts (n + 1) - at starts n → get_or (part links starts n) k d ≡ get_or links (at starts n + k) d
+  read k d inside = get_or-take (at starts (n + 1) - at starts n) (drop (at starts n) links) k d inside ∙ get_or-drop (at starts n) links k d
+
+  pub from_part : AreFrom links n (part links starts n)
+  from_part = record {
+    each = λ k c.
+        let w = s.within (n + 1) (omega arith) in
+        let i : c.0 < at starts (n + 1) - at starts n = omega (arith, long, c.1) in
+        (at starts n + c.0, omega arith, sym (read c.0 k i) ∙ c.2);
+    from = λ k c.
+        let w = s.within (n + 1) (omega arith) in
+        let i : c.0 < at starts (n + 1) - at starts n = omega (arith, long, c.1) in
+        let is : get_or links (at starts n + c.0) k ≡ k = sym (read c.0 k i) ∙ c.2 in
+        let above : n ≤ (get_or links (at starts n + c.0) k).from = (s.parts n (omega arith)).1 (at starts n + c.0) k (omega arith) (omega arith) in
+        let below : (get_or links (at starts n + c.0) k).from < n + 1 = (s.parts (n + 1) (omega arith)).0 (at starts n + c.0) k (omega arith) (omega arith) in
+        let same : (get_or links (at starts n + c.0) k).from ≡ k.from = ap (λ (m : Link). m.from) is in
+        omega arith;
+    all = λ k c e.
+        let same : (get_or links c.0 k).from ≡ k.from = ap (λ (m : Link). m.from) c.2 in
+        let first : at starts n ≤ c.0 = elim (cases_lt c.0 (at starts n)) [
+          | inl b ↦ let q : (get_or links c.0 k).from < n = (s.parts n (omega arith)).0 c.0 k (omega arith) b in absurd (omega arith)
+          | inr b ↦ b
+        ] in
+        let last : c.0 < at starts (n + 1) = elim (cases_lt c.0 (at starts (n + 1))) [
+          | inl b ↦ b
+          | inr b ↦ let q : n + 1 ≤ (get_or links c.0 k).from = (s.parts (n + 1) (omega arith)).1 c.0 k b c.1 in absurd (omega arith)
+        ] in
+        let sum : at starts n + (c.0 - at starts n) ≡ c.0 = omega arith in
+        (c.0 - at starts n, omega (arith, long), read (c.0 - at starts n) k (omega arith) ∙ (ap (λ (m : ℕ). get_or links m k) sum ∙ c.2));
+  }
+
+-- the first starts, as they are pushed
+pub record AreFirst (n : ℕ) (links : List Link) (starts : List ℕ) : Type 0 where
+  pub size : length starts ≡ n
+  pub within : (m : ℕ) → m < n → at starts m ≤ length links
+  pub parts : (m : ℕ) → m < n → IsPartitionPoint (λ (l : Link). l.from < m) (λ (l : Link). m ≤ l.from) links (at starts m)
+
+pub first-more : (n p : ℕ) (links : List Link) (starts : List ℕ) → AreFirst n links starts → p ≤ length links →
+    IsPartitionPoint (λ (l : Link). l.from < n) (λ (l : Link). n ≤ l.from) links p → AreFirst (n + 1) links (starts ++ p ∷ [])
+first-more n p links starts f bound point =
+    let before : (m : ℕ) → m < n → at (starts ++ p ∷ []) m ≡ at starts m = λ m l. get_or_append_left starts (p ∷ []) 0 m (omega (arith, f.size)) in
+    let here : at (starts ++ p ∷ []) n ≡ p = get_or_push starts p 0 n f.size in
+    record {
+      size = omega (arith, length_push starts p, f.size);
+      within = λ m l. elim (cases_lt m n) [
+        | inl b ↦ subst (λ (k : ℕ). k ≤ length links) (sym (before m b)) (f.within m b)
+        | inr b ↦
+            let e : n ≡ m = omega arith in
+            subst (λ (k : ℕ). at (starts ++ p ∷ []) k ≤ length links) e (subst (λ (k : ℕ). k ≤ length links) (sym here) bound)
+      ];
+      parts = λ m l. elim (cases_lt m n) [
+        | inl b ↦
+            subst (λ (k : ℕ). IsPartitionPoint (λ (l : Link). l.from < m) (λ (l : Link). m ≤ l.from) links k) (sym (before m b)) (f.parts m b)
+        | inr b ↦
+            let e : n ≡ m = omega arith in
+            subst (λ (k : ℕ). IsPartitionPoint (λ (l : Link). l.from < k) (λ (l : Link). k ≤ l.from) links (at (starts ++ p ∷ []) k)) e
+            (subst (λ (k : ℕ). IsPartitionPoint (λ (l : Link). l.from < n) (λ (l : Link). n ≤ l.from) links k) (sym here) point)
+      ];
+    }
+
+pub first-all : (nodes n : ℕ) (links : List Link) (starts : List ℕ) → n ≡ nodes → AreFirst n links starts → All (IsWithin nodes) links →
+    AreStarts nodes links (starts ++ length links ∷ [])
+first-all nodes n links starts e f w =
+    let all = first-more n (length links) links starts f (omega arith)
+    (λ k d low high. subst (λ (m : ℕ). (get_or links k d).from < m) (sym e) (w k d high).from, λ k d low high. absurd (omega arith)) in
+    record {
+      size = omega (arith, all.size);
+      within = λ m l. all.within m (omega arith);
+      parts = λ m l. all.parts m (omega arith);
+    }
