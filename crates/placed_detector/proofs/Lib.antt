@@ -1,1 +1,4 @@
+pub mod Longer
 pub mod Fitting
+pub mod Hearing
+pub mod Instructions
