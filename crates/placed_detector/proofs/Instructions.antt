@@ -39,7 +39,7 @@ use Rattle.race_core.specs.Watched.{Watched}
 use Rattle.race_core.specs.History.{IsWatcherAt, era_now}
 use Rattle.thread_events.specs.Standing.{Kept, is_kept_at, AreSettled, Stands}
 use Rattle.run_laws.specs.Present.{labels_now, clocks_now}
-use Rattle.placed_detector.specs.Standing.{Hand, Held, kept_of, AreGiven, Standing}
+use Rattle.placed_detector.specs.Standing.{Hand, Held, kept_of, AreGiven, Standing, left_with}
 use Rattle.placed_detector.specs.Instructions.{Beside, beside, AreHeard, MakesInstruction}
 use Rattle.placed_detector.proofs.Fitting.{Stood, Fits, Elsewhere}
 use Rattle.placed_detector.proofs.Hearing.{HeardAll, all_heard}
@@ -69,17 +69,13 @@ heard_long t [] (e ∷ es) css are = absurd are
 heard_long t (m ∷ ms) [] css are = absurd are
 heard_long t (m ∷ ms) (e ∷ es) [] are = absurd are
 
-dec : (u t : ℕ) → (u ≡ t) ⊎ (u ≢ t)
+pub dec : (u t : ℕ) → (u ≡ t) ⊎ (u ≢ t)
 dec u t = dite (ℕ_discrete u t) (λ p. inl p) (λ p. inr p)
 
 -- ---- from what is kept to what workers and places have
 
--- what one worker and one place were left with
-abbrev pub changed : State Hand Held → ℕ → ℕ → Hand → Held → State Hand Held
-changed c t k hand held = record { local = but c.local t hand; value = but c.value k held }
-
-pub kept_changed : (limits : Limits) (leaving : ℕ → Bool) (h : List Moment) (c : State Hand Held) (t k : ℕ) (hand : Hand) (held : Held) (y : Kept) → Stands limits stripe leaving h y → Fits k t (beside hand held) y → Elsewhere k t (kept_of c) y → Stands limits stripe leaving h (kept_of (changed c t k hand held))
-kept_changed limits leaving h c t k hand held y s f e = stands_same limits stripe leaving h y (kept_of (changed c t k hand held)) s desk_then objects_then watchers_then
+pub kept_changed : (limits : Limits) (leaving : ℕ → Bool) (h : List Moment) (c : State Hand Held) (t k : ℕ) (hand : Hand) (held : Held) (y : Kept) → Stands limits stripe leaving h y → Fits k t (beside hand held) y → Elsewhere k t (kept_of c) y → Stands limits stripe leaving h (kept_of (left_with c t k hand held))
+kept_changed limits leaving h c t k hand held y s f e = stands_same limits stripe leaving h y (kept_of (left_with c t k hand held)) s desk_then objects_then watchers_then
   where
     desk_by : (k ≡ desk) ⊎ (k ≢ desk) → y.desk ≡ (but c.value k held desk).desk
     desk_by (inl q) = f.desk_is q ∙ ap (λ (v : Held). v.desk) (sym (but_here c.value k desk held (sym q)))
@@ -202,7 +198,7 @@ module _ (file : List ℕ) (limits : Limits) (ok : image_of file ≡ Ok file) (c
       subst (λ (d : DeskContents). AreGiven limits later d.made (λ u. (but c.local t hand u).given)) (made_changed c t k hand held heard.then heard.stood.fits heard.elsewhere)
       (subst (λ (f : ℕ → Option (Option (List ℕ))). AreGiven limits later heard.then.desk.made f) (sym (but_map (λ (l : Hand). l.given) c.local t hand)) heard.stood.are_given)
 
-  pub instruction_stands : Standing file limits (changed c t k hand held) then (along.world_after file w t joint.steps) later
+  pub instruction_stands : Standing file limits (left_with c t k hand held) then (along.world_after file w t joint.steps) later
   instruction_stands = record {
     watched = watched_then;
     leaving = heard.stood.leaving;

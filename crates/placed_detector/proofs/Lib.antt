@@ -2,3 +2,4 @@ pub mod Longer
 pub mod Fitting
 pub mod Hearing
 pub mod Instructions
+pub mod Slots

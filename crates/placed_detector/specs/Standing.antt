@@ -5,7 +5,7 @@ use Rattle.run_laws.specs.Moments.{Moment}
 use Rattle.bare_machine.specs.World.{World}
 use Rattle.bare_machine.specs.Memory.{stripe}
 use Rattle.bare_machine.specs.Step.{desk}
-use Rattle.turn_orders.specs.Machine.{State}
+use Rattle.turn_orders.specs.Machine.{State, but}
 use Rattle.place_turns.specs.Places as machine
 use Rattle.joint_turns.specs.Joint.{Value}
 use Rattle.watched_turns.specs.Turns.{Local}
@@ -47,3 +47,7 @@ pub record Standing
   pub given : AreGiven limits h (c.value desk).desk.made (λ t. (c.local t).given)
   pub locals : (t : ℕ) → (m.local t).joint.bare ≡ (c.local t).bare
   pub values : (k : ℕ) → (m.value k).bare ≡ (c.value k).bare
+
+-- the same, but for what one worker and one place were left with
+abbrev pub left_with : State Hand Held → ℕ → ℕ → Hand → Held → State Hand Held
+left_with c t k hand held = record { local = but c.local t hand; value = but c.value k held }
