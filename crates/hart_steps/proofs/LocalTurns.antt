@@ -1,14 +1,14 @@
 -- Instructions that touch registers alone are turns that tell nothing.
-use Rattle.std.proofs.Common.{◌≡◌, ℕ, zero, suc, ◌<◌, true, false, Bool, List, [], ◌∷◌, ◌++◌, Option, Some, None, refl, ap, sym, ◌∙◌, subst, arith}
+use Rattle.std.proofs.Common.{◌≡◌, ℕ, zero, suc, ◌<◌, true, Bool, List, [], ◌∷◌, ◌++◌, Option, Some, None, refl, ap, sym, ◌∙◌, subst, arith}
 use Rattle.std.specs.Prelude.{option_and_then, if◌then◌else◌}
 use Rattle.run_record.specs.declared.event.Event.TheVariants.{Begin}
 use Rattle.rv_exec.specs.Registers.{Registers}
 use Rattle.guest_code.specs.Locals.{local, locals}
 use Rattle.bare_machine.specs.declared.thread.Thread.{Thread}
-use Rattle.bare_machine.specs.Step.{with_registers, first_events}
+use Rattle.bare_machine.specs.Step.{with_registers}
 use Rattle.bare_machine.specs.Locals.{MakesLocals}
 use Rattle.bare_machine.proofs.LocalLaws.{request_local}
-use Rattle.place_turns.specs.Places.{Local, Value}
+use Rattle.place_turns.specs.Places.{Value}
 use Rattle.place_turns.specs.Turns.{served}
 use Rattle.hart_steps.specs.declared.hart.Hart.{Hart}
 use Rattle.hart_steps.specs.Harts.{local_of, turn, leaves, AreLocalTurns, NoTurn, OneMore}
