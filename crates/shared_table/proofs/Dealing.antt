@@ -123,7 +123,8 @@ many : (n : ℕ) (x : SlotContents) → length (replicate n x) ≡ n
 many zero x = refl
 many (suc n) x = ap suc (many n x)
 
-sound_desk : (image : List ℕ) (limits : Limits) (lay : Layout) (k : ℕ) (x : Slot) → k ≡ 64 → lay.limits ≡ limits → IsFirstDesk image limits x → IsSoundSlot lay k x
+sound_desk : (image : List ℕ) (limits : Limits) (lay : Layout) (k : ℕ) (x : Slot) → k ≡ 64 → lay.limits ≡ limits →
+    IsFirstDesk image limits x → IsSoundSlot lay k x
 sound_desk image limits lay k None e same first = first
 sound_desk image limits lay k (Some (Stripe s)) e same first = absurd first
 sound_desk image limits lay k (Some (Desk d)) e same first = (
@@ -135,7 +136,8 @@ sound_desk image limits lay k (Some (Desk d)) e same first = (
 
 module _ (image : List ℕ) (limits : Limits) (lay : Layout) (stripes : List Slot) (places : List ℕ) where
   -- from the dealt stripes and the desk to the layout
-  pub laid_out : AreDealt image limits (granules_of image) stripes places → (d : Slot) → IsFirstDesk image limits d → lay.firsts ≡ stripes ++ d ∷ [] → lay.limits ≡ limits → lay.granules ≡ granules_of image
+  pub laid_out : AreDealt image limits (granules_of image) stripes places → (d : Slot) → IsFirstDesk image limits d →
+      lay.firsts ≡ stripes ++ d ∷ [] → lay.limits ≡ limits → lay.granules ≡ granules_of image
       → ((k : ℕ) → k < length stripes → get_or lay.sizes k 0 ≡ length (words_in (slot_at stripes k))) → IsLaidOut image limits lay
   laid_out dealt d first firsts same granules sizes =
       let long = dealt.all_stripes in

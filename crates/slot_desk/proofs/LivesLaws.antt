@@ -8,7 +8,8 @@ use Rattle.slot_desk.specs.Desks.{ThreadContents, DeskContents, no_thread, threa
 use Rattle.slot_desk.specs.Threads.{shown}
 
 -- where none passes from some place on, those before it are all that are counted
-counted_before : {X : Type 0} (p : X → Bool) (d : X) (xs : List X) (n : ℕ) → ((i : ℕ) → n ≤ i → p (get_or xs i d) ≡ false) → count_by p xs ≡ count_by (λ (b : Bool). b) (take n (map p xs))
+counted_before : {X : Type 0} (p : X → Bool) (d : X) (xs : List X) (n : ℕ) → ((i : ℕ) → n ≤ i → p (get_or xs i d) ≡ false) →
+    count_by p xs ≡ count_by (λ (b : Bool). b) (take n (map p xs))
 counted_before p d [] zero h = refl
 counted_before p d [] (suc n) h = refl
 counted_before {X} p d (x ∷ xs) zero h =

@@ -16,7 +16,8 @@ returns-in_default-due-clause-ends g c =
 
 pub returns-then-due-eq0-clause-ends : goal.returns-then-due-eq0-clause-ends
 returns-then-due-eq0-clause-ends g c =
-    ends-spent _ _ _ _ c.rounds.invariant.ready c.in-Some-due.due (sym c.ended.ensures ∙ c.in_default.is) (c.due.ensures.due ∙ rw c.in-Some-due.is refl) (search rules)
+    ends-spent _ _ _ _ c.rounds.invariant.ready c.in-Some-due.due (sym c.ended.ensures ∙ c.in_default.is)
+    (c.due.ensures.due ∙ rw c.in-Some-due.is refl) (search rules)
 
 pub round-requires-clause-ready : goal.round-requires-clause-ready
 round-requires-clause-ready g c =
