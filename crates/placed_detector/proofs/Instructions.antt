@@ -144,7 +144,7 @@ module _ (file : List ℕ) (limits : Limits) (ok : image_of file ≡ Ok file) (c
   at_place : IsAtPlace file (m.local t).joint.bare t k
   at_place = subst (λ (x : machine.Local). IsAtPlace file x t k) (sym (s.locals t)) mk.at
 
-  stand : StandFrom later n (watched_turn file limits.harts g t (steps loads) (m.local t) (m.value k)).told
+  pub stand : StandFrom later n (watched_turn file limits.harts g t (steps loads) (m.local t) (m.value k)).told
   stand = step_stands file limits.harts g limits.slots w later n m t k loads ok (watched_stays file limits.harts g limits.slots w h ms m s.watched) at_place
       (subst (λ (xs : List Event). AreEvents file g later t loads n 0 xs) (sym events_are) heard.right)
 
@@ -152,13 +152,13 @@ module _ (file : List ℕ) (limits : Limits) (ok : image_of file ≡ Ok file) (c
   labelled = subst (λ (xs : List Event). AreLabelled g (m.local t).joint.own.label xs) (sym events_are)
       (subst (λ (o : Option Label). AreLabelled g o es) (sym (s.watched.joint.clocks.own.label t)) heard.labelled)
 
-  placed : IsPlaced file limits.harts g (m.local t) (m.value k) t k (steps loads)
+  pub placed : IsPlaced file limits.harts g (m.local t) (m.value k) t k (steps loads)
   placed = (at_place, labelled)
 
   abbrev then : State Local Value
   then = next (watched_turn file limits.harts g) m (single t k (steps loads))
 
-  long : n + length (watched_turn file limits.harts g t (steps loads) (m.local t) (m.value k)).told ≡ length later
+  pub long : n + length (watched_turn file limits.harts g t (steps loads) (m.local t) (m.value k)).told ≡ length later
   long =
       let told = told_long file g t loads 0 (m.local t).joint.own (m.value k).clocks (m.local t).watch (events_of file limits.harts t (m.local t).joint (m.value k)) in
       let same = ap (λ (xs : List Event). length xs) events_are in

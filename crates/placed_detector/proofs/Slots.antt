@@ -204,14 +204,14 @@ module _ (file : List ℕ) (limits : Limits) (ok : image_of file ≡ Ok file) (c
     told_by : (queue : List ℕ) → queue ≡ label.sid ∷ tk.attaches.rest → map unchecked (clock_turns.attached t (m.local t).joint.own cd queue (m.value desk).clocks).told ≡ unchecked (Notes t (Attach label)) ∷ []
     told_by queue e = ap (λ (x : List ℕ). map unchecked (clock_turns.attached t (m.local t).joint.own cd x (m.value desk).clocks).told) e ∙ label_told (cd.last label.sid + 1) cd.era last_is era_is
 
-    told_is : (watched_turn file limits.harts g t attaches (m.local t) (m.value desk)).told ≡ unchecked (Notes t (Attach label)) ∷ []
+    pub told_is : (watched_turn file limits.harts g t attaches (m.local t) (m.value desk)).told ≡ unchecked (Notes t (Attach label)) ∷ []
     told_is = ap turned queue_is ∙ told_by cd.queue queue_is
 
     label_none : (m.local t).joint.own.label ≡ None
     label_none = s.watched.joint.clocks.own.label t ∙ (sym ((s.kept.watchers t).label tk.present) ∙ tk.attaches.unlabelled)
 
-    placed : IsPlaced file limits.harts g (m.local t) (m.value desk) t desk attaches
-    placed = ((refl, label_none, subst (λ (v : machine.Value). t < length (machine.desk_in v).made) (sym (s.values desk)) tk.known), tt)
+    pub attach_placed : IsPlaced file limits.harts g (m.local t) (m.value desk) t desk attaches
+    attach_placed = ((refl, label_none, subst (λ (v : machine.Value). t < length (machine.desk_in v).made) (sym (s.values desk)) tk.known), tt)
 
     -- the kept side
     kept_taken : Stands limits stripe s.leaving later (kept_of c_taken)
@@ -277,7 +277,7 @@ module _ (file : List ℕ) (limits : Limits) (ok : image_of file ≡ Ok file) (c
 
     pub taken_slot_stands : Standing file limits c_taken taken_then w later
     taken_slot_stands = record {
-      watched = noted file limits ok m w h s.watched t desk attaches (Attach label) mom is none placed told_is;
+      watched = noted file limits ok m w h s.watched t desk attaches (Attach label) mom is none attach_placed told_is;
       leaving = s.leaving;
       kept = kept_taken;
       given = λ u told q.

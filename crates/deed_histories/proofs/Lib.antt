@@ -1,0 +1,3 @@
+pub mod Numbered
+pub mod Made
+pub mod Entries
