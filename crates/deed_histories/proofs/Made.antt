@@ -35,8 +35,7 @@ zip_told h (m ∷ ms) [] l s = absurd (cc)
 zip_told h (m ∷ ms) (x ∷ xs) l s =
     let at : moment_at (h ++ m ∷ ms) (length h) ≡ m = get_or-append_seam h m ms (record { entry = 0; round = 0; item = Past; checks = [] }) in
     let whole : h ++ m ∷ ms ≡ (h ++ m ∷ []) ++ ms = sym (append_assoc h (m ∷ []) ms) in
-    let n : suc (length h) ≡ length (h ++ m ∷ []) = omega (arith, length-append h (m ∷ [])) in
-    (
+    let n : suc (length h) ≡ length (h ++ m ∷ []) = omega (arith, length-append h (m ∷ [])) in (
       record { item = ap (λ (y : Moment). y.item) (sym at) ∙ s.0.item; checks = ap (λ (y : Moment). map checked_of y.checks) (sym at) ∙ s.0.checks },
       zip_told (h ++ m ∷ []) ms xs (let q = l in omega arith) (subst (λ (j : ℕ). StandFrom ((h ++ m ∷ []) ++ ms) j xs) n (subst (λ (y : List Moment). StandFrom y (suc (length h)) xs) whole s.1)),
     )
@@ -187,12 +186,12 @@ module _ (file : List ℕ) (limits : Limits) (ok : image_of file ≡ Ok file) (t
           alive_there c m w h s made.3,
           ap (λ (l : machine.Local). next_object file t l.thread) (s.locals t) ∙ made.4,
           subst (λ (l : Local). MakesSteps file limits.harts limits.epochs l (turn t (steps x.loads) (m.local t) (m.value k)).value t k (loads_of (y ∷ rest))) (next_local m (steps x.loads))
-          (subst (λ (v : Value). MakesSteps file limits.harts limits.epochs (m1.local t) v t k (loads_of (y ∷ rest))) (next_value m (steps x.loads)) others.makes),
+              (subst (λ (v : Value). MakesSteps file limits.harts limits.epochs (m1.local t) v t k (loads_of (y ∷ rest))) (next_value m (steps x.loads)) others.makes),
         );
         were_placed = (
           one.is_placed,
           subst (λ (l : Local). WerePlaced file limits.harts limits.epochs l (turn t (steps x.loads) (m.local t) (m.value k)).value t k (acts_of (y ∷ rest))) (next_local m (steps x.loads))
-          (subst (λ (v : Value). WerePlaced file limits.harts limits.epochs (m1.local t) v t k (acts_of (y ∷ rest))) (next_value m (steps x.loads)) others.were_placed),
+              (subst (λ (v : Value). WerePlaced file limits.harts limits.epochs (m1.local t) v t k (acts_of (y ∷ rest))) (next_value m (steps x.loads)) others.were_placed),
         );
         told = subst (λ (zs : List Moment). AllZip IsTold zs (all_of (tells turn m (singles t k (acts_of (x ∷ (y ∷ rest))))))) (sym cut.whole)
             (zip_append IsTold cut.first cut.rest (turn t (steps x.loads) (m.local t) (m.value k)).told (all_of (tells turn m1 (singles t k (acts_of (y ∷ rest))))) one.told others.told);
