@@ -42,8 +42,8 @@ made_run call asked request seed size t call_asks is task told = record {
 pub lock_told : (request : RequestText) (bytes : List ℕ) (rules : List Rule) (t : Told) (file : List ℕ) (count : ℕ) → request.task ≡ locks file
     → IsRun OneByOne bytes request.limits request.plan (suppressed_by rules bytes) t.finished → IsLockText (moments t.finished.history.entries) count (flat_map bytes_of t.texts.items)
     → t.status ≡ (if nat_lt 0 count then 66 else end_status t.finished.last.end) → t.alone ≡ true → IsTold request bytes rules t
-lock_told request bytes rules t file count e run text status alone = record {
-  run = subst (λ (k : TaskText). IsRun (mode_of k) bytes request.limits request.plan (suppressed_by rules bytes) t.finished) (sym e) run;
+lock_told request bytes rules t file count e is_run text status alone = record {
+  run = subst (λ (k : TaskText). IsRun (mode_of k) bytes request.limits request.plan (suppressed_by rules bytes) t.finished) (sym e) is_run;
   tells = subst (λ (k : TaskText). Tells k bytes t.finished (flat_map bytes_of t.texts.items) t.status) (sym e)
   (record { count = count; text_is = text; status_is = status });
   alone_is = alone ∙ ap is_alone (sym e);
