@@ -3,7 +3,6 @@ use Rattle.std.proofs.Common.{◌≡◌, ℕ, List, [], ◌∷◌, ◌++◌, len
 use Rattle.std.specs.Prelude.{map, Ok}
 use Rattle.std.specs.List.{AllZip, flat_map, enumerate_from}
 use Rattle.run_record.specs.declared.event.Event.{Event}
-use Rattle.run_record.specs.declared.entry.Check.{Check}
 use Rattle.run_record.specs.declared.entry.Entry.{Entry}
 use Rattle.run_record.specs.declared.entry.DeskNote.{DeskNote}
 use Rattle.run_record.specs.declared.entry.DeskNote.TheVariants.{Nothing, Attach, Leave}
@@ -15,7 +14,7 @@ use Rattle.run_laws.specs.Checks.{IsGrouped}
 use Rattle.run_laws.specs.Numbers.{up_from}
 use Rattle.bare_machine.specs.World.{World}
 use Rattle.bare_machine.specs.Step.{desk}
-use Rattle.turn_orders.specs.Machine.{State, Turn, but, next, after, tells, many, single, singles}
+use Rattle.turn_orders.specs.Machine.{State, Turn, next, tells, many, single, singles}
 use Rattle.turn_orders.proofs.Functions.{but_same}
 use Rattle.turn_orders.proofs.Many.{many_next, many_tells}
 use Rattle.joint_turns.specs.Joint.{Value}

@@ -1,9 +1,8 @@
 -- Deeds of workers that line up: the watched machine follows them.
-use Rattle.std.proofs.Common.{◌≡◌, ◌≢◌, ℕ, ◌+◌, max, ◌⊎◌, inl, inr, List, [], ◌∷◌, ◌++◌, append_assoc, append-nil, refl, ap, ap₂, sym, subst, ◌∙◌}
+use Rattle.std.proofs.Common.{◌≡◌, ◌≢◌, ℕ, ◌+◌, max, ◌⊎◌, inl, inr, List, [], ◌∷◌, ◌++◌, append_assoc, append-nil, ap, ap₂, sym, subst, ◌∙◌}
 use Rattle.std.specs.Prelude.{map, Ok}
-use Rattle.std.specs.List.{AllZip, flat_map, enumerate_from}
+use Rattle.std.specs.List.{enumerate_from}
 use mathlib.Core.Logic.{dite}
-use mathlib.Core.Path.{fun_ext}
 use native.Mathlib.Decide.{ℕ_discrete}
 use Rattle.run_record.specs.declared.event.Event.{Event}
 use Rattle.run_record.specs.declared.entry.Entry.{Entry}
@@ -13,7 +12,7 @@ use Rattle.run_laws.specs.Moments.{Does, Notes, NewEra, Moment, entry_moments, e
 use Rattle.bare_machine.specs.World.{World}
 use Rattle.turn_orders.specs.Lists.{Each}
 use Rattle.turn_orders.specs.Machine.{Call, State, but, next, after, many, single}
-use Rattle.turn_orders.specs.LineUp.{Deed, Stamped, stamped, with_stamp, plain, calls, IsLineUp}
+use Rattle.turn_orders.specs.LineUp.{Deed, Stamped, plain, calls}
 use Rattle.turn_orders.proofs.Functions.{but_here, but_else, but_map}
 use Rattle.joint_turns.specs.Joint.{Value}
 use Rattle.watched_turns.specs.Turns.{Local, Act, watched_turn}
@@ -25,7 +24,7 @@ use Rattle.woven_turns.specs.Following.{left_by, left_after, deed_of, deeds_of, 
 use Rattle.woven_turns.proofs.Following.{found_local, found_value, rest_lines, first_line}
 use Rattle.placed_detector.specs.Standing.{Hand, Held, Standing, left_with}
 use Rattle.deed_histories.specs.Deeds.{IsDeed, Takes, Leaves, Makes, IsFollowed}
-use Rattle.deed_histories.specs.Lines.{Tells, HandDeed, acts_of, entries_of, moments_of, IsHandDeed, stamped_turn, StandsStamped, FollowsDeeds}
+use Rattle.deed_histories.specs.Lines.{HandDeed, acts_of, entries_of, moments_of, IsHandDeed, stamped_turn, StandsStamped, FollowsDeeds}
 use Rattle.deed_histories.proofs.Entries.{followed}
 
 -- no era begins within an entry

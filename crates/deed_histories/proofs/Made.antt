@@ -1,7 +1,7 @@
 -- Instructions one after another at one place: the watched machine makes them too, tells what the moments have, and all stands.
-use Rattle.std.proofs.Common.{◌≡◌, ◌≢◌, ℕ, suc, ◌+◌, Bool, Option, Some, None, List, [], ◌∷◌, ◌++◌, length, append_assoc, append-nil, length-append, refl, ap, ap₂, sym, subst, ◌∙◌, arith}
+use Rattle.std.proofs.Common.{◌≡◌, ℕ, suc, ◌+◌, List, [], ◌∷◌, ◌++◌, length, append_assoc, append-nil, length-append, refl, ap, ap₂, sym, subst, ◌∙◌, arith}
 use Rattle.std.specs.Prelude.{map, Ok}
-use Rattle.std.specs.List.{AllZip, flat_map}
+use Rattle.std.specs.List.{AllZip}
 use Rattle.std.proofs.Math.Seq.{get_or-append_seam}
 use Rattle.run_record.specs.declared.event.Event.{Event}
 use Rattle.run_record.specs.declared.entry.Check.{Check}
@@ -17,7 +17,7 @@ use Rattle.joint_turns.specs.Joint.{Value}
 use Rattle.joint_turns.specs.Along as along
 use Rattle.watched_turns.specs.Checking.{Loads, checked_of}
 use Rattle.watched_turns.specs.Turns.{Local, Act, Told, steps, watched_turn, IsPlaced}
-use Rattle.watched_turns.specs.Along.{StandsAt, StandFrom, WerePlaced, all_of}
+use Rattle.watched_turns.specs.Along.{StandFrom, WerePlaced, all_of}
 use Rattle.turn_histories.specs.Entries.{IsAlive, IsPlaceOf, next_object, MakesSteps, IsTold}
 use Rattle.race_core.specs.History.{era_now}
 use Rattle.placed_detector.specs.Standing.{Hand, Held, Standing, left_with}

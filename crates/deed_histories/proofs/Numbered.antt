@@ -1,15 +1,15 @@
 -- The checks of an entry by the events that they name.
-use Rattle.std.proofs.Common.{◌≡◌, ◌≢◌, ℕ, zero, suc, ◌+◌, ◌<◌, ◌==◌, Bool, true, false, cond, List, [], ◌∷◌, ◌++◌, length, append_assoc, append-nil, length-append, refl, ap, ap₂, sym, subst, ◌∙◌, arith, eq-eqb, ne_eqb}
-use Rattle.std.specs.Prelude.{map, filter}
+use Rattle.std.proofs.Common.{◌≡◌, ◌≢◌, ℕ, suc, ◌+◌, ◌<◌, ◌==◌, Bool, true, false, cond, List, [], ◌∷◌, ◌++◌, length, append_assoc, append-nil, refl, ap, ap₂, sym, subst, ◌∙◌, arith, eq-eqb, ne_eqb}
+use Rattle.std.specs.Prelude.{map}
 use Rattle.std.specs.List.{flat_map, enumerate_from}
 use Rattle.run_record.specs.declared.event.Event.{Event}
 use Rattle.run_record.specs.declared.entry.Check.{Check}
 use Rattle.run_record.specs.declared.entry.Entry.{Entry}
-use Rattle.run_laws.specs.Moments.{Does, Moment, checks_at, event_moment}
+use Rattle.run_laws.specs.Moments.{Does, checks_at, event_moment}
 use Rattle.run_laws.specs.Numbers.{up_from}
 use Rattle.run_laws.specs.Checks.{IsGrouped}
 use Rattle.turn_orders.specs.Lists.{Each}
-use Rattle.placed_detector.specs.Instructions.{IsHeard, AreHeard}
+use Rattle.placed_detector.specs.Instructions.{AreHeard}
 use Rattle.deed_histories.specs.Deeds.{AreNumbered}
 
 abbrev pub flat : List (List Check) → List Check

@@ -1,10 +1,10 @@
 -- What workers and places begin with stands before any history.
-use Rattle.std.proofs.Common.{◌≡◌, ℕ, zero, suc, Bool, false, Option, Some, None, List, [], get_or, refl, sym, ap}
+use Rattle.std.proofs.Common.{◌≡◌, ℕ, zero, suc, false, Option, Some, None, List, [], get_or, refl}
 use Rattle.std.specs.Prelude.{replicate}
 use Rattle.run_record.specs.declared.limits.Limits.{Limits}
 use Rattle.run_laws.specs.Moments.{items}
 use Rattle.run_laws.specs.Labels.{labels}
-use Rattle.run_laws.specs.Clocks.{Clocks, clocks}
+use Rattle.run_laws.specs.Clocks.{clocks}
 use Rattle.bare_machine.specs.World.{start}
 use Rattle.bare_machine.specs.Memory.{stripe}
 use Rattle.slot_desk.specs.declared.slot.Attachment.{Attachment}

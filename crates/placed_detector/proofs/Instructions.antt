@@ -1,5 +1,5 @@
 -- An instruction with all its events: the watched machine makes it too, and all stands after it.
-use Rattle.std.proofs.Common.{◌≡◌, ◌≢◌, ℕ, suc, ◌+◌, ◌⊎◌, inl, inr, Bool, Option, Some, List, [], ◌∷◌, ◌++◌, length, length-append, refl, ap, ap₂, sym, subst, ◌∙◌, arith}
+use Rattle.std.proofs.Common.{◌≡◌, ◌≢◌, ℕ, suc, ◌+◌, ◌⊎◌, inl, inr, Bool, Option, List, [], ◌∷◌, ◌++◌, length, length-append, refl, ap, ap₂, sym, subst, ◌∙◌, arith}
 use Rattle.std.specs.Prelude.{Ok}
 use mathlib.Core.Logic.{dite}
 use native.Mathlib.Decide.{ℕ_discrete}
@@ -9,7 +9,6 @@ use Rattle.run_record.specs.declared.entry.Label.{Label}
 use Rattle.run_record.specs.declared.limits.Limits.{Limits}
 use Rattle.elf_image.specs.File.{image_of}
 use Rattle.run_laws.specs.Moments.{Moment, items}
-use Rattle.run_laws.specs.Present.{label_now}
 use Rattle.bare_machine.specs.World.{World}
 use Rattle.bare_machine.specs.Memory.{stripe}
 use Rattle.bare_machine.specs.Step.{desk}
@@ -35,12 +34,11 @@ use Rattle.slot_desk.specs.Desks.{DeskContents}
 use Rattle.slot_desk.specs.History.{IsDeskAt}
 use Rattle.sync_slab.specs.Objects.{SyncObjects}
 use Rattle.sync_slab.specs.Channels.{KeepsChannels}
-use Rattle.race_core.specs.Watched.{Watched}
 use Rattle.race_core.specs.History.{IsWatcherAt, era_now}
 use Rattle.thread_events.specs.Standing.{Kept, is_kept_at, AreSettled, Stands}
 use Rattle.run_laws.specs.Present.{labels_now, clocks_now}
 use Rattle.placed_detector.specs.Standing.{Hand, Held, kept_of, AreGiven, Standing, left_with}
-use Rattle.placed_detector.specs.Instructions.{Beside, beside, AreHeard, MakesInstruction}
+use Rattle.placed_detector.specs.Instructions.{beside, AreHeard, MakesInstruction}
 use Rattle.placed_detector.proofs.Fitting.{Stood, Fits, Elsewhere}
 use Rattle.placed_detector.proofs.Hearing.{HeardAll, all_heard}
 use Rattle.placed_detector.proofs.Longer.{watched_stays}

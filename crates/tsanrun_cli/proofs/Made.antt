@@ -45,7 +45,7 @@ pub lock_told : (request : RequestText) (bytes : List ℕ) (rules : List Rule) (
 lock_told request bytes rules t file count e is_run text status alone = record {
   run = subst (λ (k : TaskText). IsRun (mode_of k) bytes request.limits request.plan (suppressed_by rules bytes) t.finished) (sym e) is_run;
   tells = subst (λ (k : TaskText). Tells k bytes t.finished (flat_map bytes_of t.texts.items) t.status) (sym e)
-  (record { count = count; text_is = text; status_is = status });
+      (record { count = count; text_is = text; status_is = status });
   alone_is = alone ∙ ap is_alone (sym e);
 }
 
