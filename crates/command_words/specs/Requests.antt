@@ -20,6 +20,7 @@ use Rattle.command_words.specs.declared.request.UsageFault.TheVariants as fault
 pub data TaskText : Type 0 where
   run : Text → TaskText
   step : Text → TaskText
+  locks : Text → TaskText
   generate : ℕ → ℕ → TaskText
 
 -- a request with its names as texts
@@ -33,6 +34,7 @@ pub record RequestText : Type 0 where
 abbrev pub task_text : Task → TaskText
 task_text (task.Run file) = run file.now
 task_text (task.Step file) = step file.now
+task_text (task.Locks file) = locks file.now
 task_text (task.Generate s z) = generate s z
 
 -- a request of the code with its names as texts
@@ -50,9 +52,9 @@ is_command rows name = option_map_or (λ word. bytes_eq word name) (given rows (
 
 -- the command runs a file
 abbrev pub runs_file : List Row → Bool
-runs_file rows = is_command rows (codes "run") || is_command rows (codes "step")
+runs_file rows = (is_command rows (codes "run") || is_command rows (codes "step")) || is_command rows (codes "locks")
 
--- the command is one of the three
+-- the command is one of the four
 abbrev pub has_command : List Row → Bool
 has_command rows = runs_file rows || is_command rows (codes "gen")
 
@@ -86,7 +88,8 @@ fault_in rows =
 unfoldable pub task_with : List Row → ℕ → ℕ → TaskText
 task_with rows s z = if is_command rows (codes "run") then run (unwrap_or (file_in rows) [])
     else (if is_command rows (codes "step") then step (unwrap_or (file_in rows) [])
-    else generate s z)
+    else (if is_command rows (codes "locks") then locks (unwrap_or (file_in rows) [])
+    else generate s z))
 
 -- what is asked for, where there is no fault
 abbrev pub request_in : List Row → RequestText
@@ -120,6 +123,7 @@ Tells wanted (Err NoMemory) = Unit {0}
 abbrev pub IsTask : TaskText → Type 0
 IsTask (run file) = Unit {0}
 IsTask (step file) = Unit {0}
+IsTask (locks file) = Unit {0}
 IsTask (generate s z) = z ≤ 10000
 
 -- the limits are in their ranges

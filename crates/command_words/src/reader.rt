@@ -18,6 +18,7 @@ use std::alloc::Global;
 enum Work<'a> {
     Run(&'a str),
     Step(&'a str),
+    Locks(&'a str),
     Generate,
 }
 
@@ -43,6 +44,9 @@ fn work_on<'a>(matches: &ArgMatches<'a>, file: &'a str) -> Result<Work<'a>, Usag
     if is_command(matches, "step") {
         return Ok(Work::Step(file));
     }
+    if is_command(matches, "locks") {
+        return Ok(Work::Locks(file));
+    }
     if is_command(matches, "gen") {
         return Err(UsageFault::File);
     }
@@ -56,6 +60,9 @@ fn work_without_file<'a>(matches: &ArgMatches<'a>) -> Result<Work<'a>, UsageFaul
     ensures { Works (rows_read matches.now) result }
 {
     if is_command(matches, "run") || is_command(matches, "step") {
+        return Err(UsageFault::File);
+    }
+    if is_command(matches, "locks") {
         return Err(UsageFault::File);
     }
     if is_command(matches, "gen") {
@@ -81,6 +88,7 @@ fn task_of<'a>(work: Work<'a>, seed: u32, size: u32) -> Task<'a>
     match work {
         Work::Run(file) => Task::Run { file },
         Work::Step(file) => Task::Step { file },
+        Work::Locks(file) => Task::Locks { file },
         Work::Generate => Task::Generate { seed, size },
     }
 }
@@ -124,7 +132,7 @@ fn request_in<'a>(alloc: Global, matches: &ArgMatches<'a>) -> Result<Request<'a>
 }
 
 /// Reads the words of a command line, without the program's name before them: a command `run FILE`,
-/// `step FILE` or `gen`, and options `--name TEXT` or `--name=TEXT` in any order, each at most once;
+/// `step FILE`, `locks FILE` or `gen`, and options `--name TEXT` or `--name=TEXT` in any order, each at most once;
 /// behind `--` stand no options. `NoMemory` comes only where memory runs out.
 pub fn read_words<'a>(alloc: Global, words: &'a [String]) -> Result<Request<'a>, Refusal>
     ensures told { Tells (request_of (map string_bytes words.entry.now)) result }

@@ -6,7 +6,7 @@ use run_record::{Limits, NoMemory, Turn};
 use std::alloc::Global;
 use std::test::Fail;
 
-static REFUSED: [(&str, UsageFault); 40] = [
+static REFUSED: [(&str, UsageFault); 42] = [
     ("", UsageFault::Command),
     ("--help", UsageFault::Words),
     ("-h", UsageFault::Words),
@@ -33,6 +33,8 @@ static REFUSED: [(&str, UsageFault); 40] = [
     ("step", UsageFault::File),
     ("run --harts=0", UsageFault::File),
     ("gen a", UsageFault::File),
+    ("locks", UsageFault::File),
+    ("lock a", UsageFault::Command),
     ("gen --harts=", UsageFault::Number),
     ("gen --harts=+4", UsageFault::Number),
     ("gen --harts=0", UsageFault::Number),
@@ -49,9 +51,10 @@ static REFUSED: [(&str, UsageFault); 40] = [
     ("gen --harts=3 --slots=2", UsageFault::FewSlots),
 ];
 
-static ACCEPTED: [&str; 8] = [
+static ACCEPTED: [&str; 9] = [
     "gen",
     "run a",
+    "locks a",
     "step a --harts 64 --slots 64",
     "step --seed=0000000001 -- -a",
     "gen --seed=4294967295 --size=0",

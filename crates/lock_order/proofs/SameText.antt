@@ -178,7 +178,7 @@ pub same_text : (h : List Moment) (m n : ℕ) (text other : List ℕ) → IsLock
 same_text h m n text other a b =
     let edges = same_edges h a.edges b.edges a.are_edges b.are_edges in
     let cycles = same_cycles b.edges a.cycles b.cycles b.are_edges.ordered
-        (subst (λ (es : List Edge). AreCycles es a.cycles) edges a.are_cycles) b.are_cycles in (
+    (subst (λ (es : List Edge). AreCycles es a.cycles) edges a.are_cycles) b.are_cycles in (
       a.count_is ∙ (ap length cycles ∙ sym b.count_is),
       a.text_is ∙ (ap (λ (cs : List Cycle). flat_map (λ (c : Cycle). cycle_lines c.edges) cs ++ count_line (length cs)) cycles ∙ sym b.text_is),
     )

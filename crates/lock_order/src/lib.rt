@@ -5,7 +5,7 @@
 //! thread are used, and `graph_search`, whose `distances` are those of shortest ways from one mutex to another. `edges` lists
 //! each pair of mutexes of which one was taken while the other was kept; `cycles` gives for each knot of them, a set of which
 //! each reaches each, its first shortest cycle; `cycle_text` writes one, and `lock_text` all of a
-//! history. Nothing stands above yet.
+//! history, which `tsanrun_cli` tells for the command `locks`.
 #![tactic(auto)]
 
 mod cycle;

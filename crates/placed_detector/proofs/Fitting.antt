@@ -1,5 +1,5 @@
 -- One event of a thread, heard by its watcher and at its place: all that is kept stands after it.
-use Rattle.std.proofs.Common.{◌≡◌, ◌≢◌, ℕ, ◌+◌, ◌<◌, ◌≤◌, ◌⊎◌, inl, inr, Bool, true, false, cond, Option, Some, None, List, [], ◌∷◌, ◌++◌, length, refl, ap, ap₂, sym, subst, ◌∙◌, arith}
+use Rattle.std.proofs.Common.{◌≡◌, ◌≢◌, ℕ, ◌+◌, ◌<◌, ◌≤◌, ◌⊎◌, inl, inr, Bool, true, false, cond, Option, Some, None, List, [], ◌∷◌, ◌++◌, refl, ap, ap₂, sym, subst, ◌∙◌, arith}
 use mathlib.Core.Logic.{dite}
 use native.Mathlib.Decide.{ℕ_discrete}
 use Rattle.run_record.specs.declared.event.Event.{Event}
@@ -14,7 +14,6 @@ use Rattle.bare_machine.specs.Memory.{stripe}
 use Rattle.bare_machine.specs.Step.{desk}
 use Rattle.turn_orders.specs.Machine.{but}
 use Rattle.turn_orders.proofs.Functions.{but_here, but_else}
-use Rattle.slot_desk.specs.declared.answers.Created.{Created}
 use Rattle.slot_desk.specs.declared.answers.Created.TheVariants.{Thread, Full}
 use Rattle.slot_desk.specs.Desks.{DeskContents}
 use Rattle.slot_desk.specs.Steps as desks
@@ -23,7 +22,7 @@ use Rattle.sync_slab.specs.Objects.{SyncObjects}
 use Rattle.race_core.specs.Watched.{Watched, next_label, raised}
 use Rattle.race_core.specs.History.{era_now}
 use Rattle.thread_events.specs.Standing.{Kept, Stands}
-use Rattle.thread_events.specs.Heard.{IsGoing, IsGiven, IfBegin, IsAtKeeper, IsGranted, ObjectsAfter, watcher_after, desk_after, kept_after, leaving_after, raised_or_lost_to}
+use Rattle.thread_events.specs.Heard.{IsGoing, IsGiven, IfBegin, IsGranted, ObjectsAfter, watcher_after, desk_after, kept_after, leaving_after, raised_or_lost_to}
 use Rattle.thread_events.proofs.Longer.{era_stays}
 use Rattle.thread_events.proofs.All.{event_stands, put_stands}
 use Rattle.placed_detector.specs.Standing.{AreGiven}

@@ -1,5 +1,5 @@
 -- All events of an instruction, one after another: all that is kept stands after them, and their moments are right.
-use Rattle.std.proofs.Common.{◌≡◌, ◌≢◌, ℕ, suc, ◌+◌, ◌<◌, ◌≤◌, Option, Some, None, List, [], ◌∷◌, ◌++◌, length, append_assoc, append-nil, refl, ap, sym, subst, ◌∙◌, arith}
+use Rattle.std.proofs.Common.{◌≡◌, ℕ, suc, ◌+◌, ◌≤◌, Option, Some, None, List, [], ◌∷◌, ◌++◌, length, append_assoc, append-nil, refl, ap, sym, subst, ◌∙◌, arith}
 use Rattle.std.specs.Prelude.{option_map, ◌%◌}
 use Rattle.std.specs.List.{AllZip}
 use Rattle.std.proofs.Math.Seq.{get_or-append_seam}
@@ -25,8 +25,8 @@ use Rattle.watched_turns.specs.Turns.{IsLabelled, AreLabelled}
 use Rattle.watched_turns.specs.Right.{AreLoaded, AreEvents}
 use Rattle.race_core.specs.Watched.{Watched}
 use Rattle.thread_events.specs.Standing.{Kept}
-use Rattle.placed_detector.specs.Instructions.{Beside, ChecksPart, ChecksAccess, HearsEvents, IsHeard, AreHeard}
-use Rattle.placed_detector.proofs.Fitting.{Fits, Elsewhere, Stood, Heard, one_heard}
+use Rattle.placed_detector.specs.Instructions.{Beside, ChecksPart, ChecksAccess, HearsEvents, AreHeard}
+use Rattle.placed_detector.proofs.Fitting.{Elsewhere, Stood, one_heard}
 
 pub elsewhere_twice : (k t : ℕ) (x y z : Kept) → Elsewhere k t x y → Elsewhere k t y z → Elsewhere k t x z
 elsewhere_twice k t x y z a b = record {

@@ -1,5 +1,5 @@
 -- An instruction with all its events: the watched machine makes it too, and all stands after it.
-use Rattle.std.proofs.Common.{◌≡◌, ◌≢◌, ℕ, suc, ◌+◌, ◌⊎◌, inl, inr, Bool, Option, Some, List, [], ◌∷◌, ◌++◌, length, length-append, refl, ap, ap₂, sym, subst, ◌∙◌, arith}
+use Rattle.std.proofs.Common.{◌≡◌, ◌≢◌, ℕ, suc, ◌+◌, ◌⊎◌, inl, inr, Bool, Option, List, [], ◌∷◌, ◌++◌, length, length-append, refl, ap, ap₂, sym, subst, ◌∙◌, arith}
 use Rattle.std.specs.Prelude.{Ok}
 use mathlib.Core.Logic.{dite}
 use native.Mathlib.Decide.{ℕ_discrete}
@@ -9,7 +9,6 @@ use Rattle.run_record.specs.declared.entry.Label.{Label}
 use Rattle.run_record.specs.declared.limits.Limits.{Limits}
 use Rattle.elf_image.specs.File.{image_of}
 use Rattle.run_laws.specs.Moments.{Moment, items}
-use Rattle.run_laws.specs.Present.{label_now}
 use Rattle.bare_machine.specs.World.{World}
 use Rattle.bare_machine.specs.Memory.{stripe}
 use Rattle.bare_machine.specs.Step.{desk}
@@ -35,12 +34,11 @@ use Rattle.slot_desk.specs.Desks.{DeskContents}
 use Rattle.slot_desk.specs.History.{IsDeskAt}
 use Rattle.sync_slab.specs.Objects.{SyncObjects}
 use Rattle.sync_slab.specs.Channels.{KeepsChannels}
-use Rattle.race_core.specs.Watched.{Watched}
 use Rattle.race_core.specs.History.{IsWatcherAt, era_now}
 use Rattle.thread_events.specs.Standing.{Kept, is_kept_at, AreSettled, Stands}
 use Rattle.run_laws.specs.Present.{labels_now, clocks_now}
 use Rattle.placed_detector.specs.Standing.{Hand, Held, kept_of, AreGiven, Standing, left_with}
-use Rattle.placed_detector.specs.Instructions.{Beside, beside, AreHeard, MakesInstruction}
+use Rattle.placed_detector.specs.Instructions.{beside, AreHeard, MakesInstruction}
 use Rattle.placed_detector.proofs.Fitting.{Stood, Fits, Elsewhere}
 use Rattle.placed_detector.proofs.Hearing.{HeardAll, all_heard}
 use Rattle.placed_detector.proofs.Longer.{watched_stays}
@@ -144,7 +142,7 @@ module _ (file : List ℕ) (limits : Limits) (ok : image_of file ≡ Ok file) (c
   at_place : IsAtPlace file (m.local t).joint.bare t k
   at_place = subst (λ (x : machine.Local). IsAtPlace file x t k) (sym (s.locals t)) mk.at
 
-  stand : StandFrom later n (watched_turn file limits.harts g t (steps loads) (m.local t) (m.value k)).told
+  pub stand : StandFrom later n (watched_turn file limits.harts g t (steps loads) (m.local t) (m.value k)).told
   stand = step_stands file limits.harts g limits.slots w later n m t k loads ok (watched_stays file limits.harts g limits.slots w h ms m s.watched) at_place
       (subst (λ (xs : List Event). AreEvents file g later t loads n 0 xs) (sym events_are) heard.right)
 
@@ -152,13 +150,13 @@ module _ (file : List ℕ) (limits : Limits) (ok : image_of file ≡ Ok file) (c
   labelled = subst (λ (xs : List Event). AreLabelled g (m.local t).joint.own.label xs) (sym events_are)
       (subst (λ (o : Option Label). AreLabelled g o es) (sym (s.watched.joint.clocks.own.label t)) heard.labelled)
 
-  placed : IsPlaced file limits.harts g (m.local t) (m.value k) t k (steps loads)
+  pub placed : IsPlaced file limits.harts g (m.local t) (m.value k) t k (steps loads)
   placed = (at_place, labelled)
 
   abbrev then : State Local Value
   then = next (watched_turn file limits.harts g) m (single t k (steps loads))
 
-  long : n + length (watched_turn file limits.harts g t (steps loads) (m.local t) (m.value k)).told ≡ length later
+  pub long : n + length (watched_turn file limits.harts g t (steps loads) (m.local t) (m.value k)).told ≡ length later
   long =
       let told = told_long file g t loads 0 (m.local t).joint.own (m.value k).clocks (m.local t).watch (events_of file limits.harts t (m.local t).joint (m.value k)) in
       let same = ap (λ (xs : List Event). length xs) events_are in

@@ -3,3 +3,4 @@ pub mod Fitting
 pub mod Hearing
 pub mod Instructions
 pub mod Slots
+pub mod First

@@ -1,16 +1,15 @@
 -- A slot that is taken or left, and an entry that begins without one: the watched machine does so too, and all stands after it.
-use Rattle.std.proofs.Common.{◌≡◌, ◌≢◌, ◌<◌, ◌≤◌, ℕ, suc, ◌+◌, ◌⊎◌, inl, inr, Bool, true, false, cond, Option, Some, None, List, [], ◌∷◌, ◌++◌, length, length-append, refl, ap, ap₂, sym, subst, ◌∙◌, arith}
+use Rattle.std.proofs.Common.{◌≡◌, ◌≢◌, ◌<◌, ℕ, ◌+◌, ◌⊎◌, inl, inr, Bool, true, false, cond, Option, Some, None, List, [], ◌∷◌, ◌++◌, length, refl, ap, ap₂, sym, subst, ◌∙◌, arith}
 use Rattle.std.specs.Prelude.{map, Ok}
-use Rattle.run_record.specs.declared.entry.Check.{Check}
 use Rattle.run_record.specs.declared.entry.DeskNote.{DeskNote}
 use Rattle.run_record.specs.declared.entry.DeskNote.TheVariants.{Nothing, Attach, Leave}
 use Rattle.run_record.specs.declared.entry.Label.{Label}
 use Rattle.run_record.specs.declared.limits.Limits.{Limits}
 use Rattle.elf_image.specs.File.{image_of}
-use Rattle.run_laws.specs.Moments.{Notes, NewEra, Moment, moment_at, items}
+use Rattle.run_laws.specs.Moments.{Notes, NewEra, Moment, items}
 use Rattle.run_laws.specs.Labels.{Labels, queue, can_attach}
 use Rattle.run_laws.specs.Clocks.{Clocks, Spot, Given, Of, next_clocks, attach_clocks}
-use Rattle.run_laws.specs.Present.{labels_now, label_now, clocks_now}
+use Rattle.run_laws.specs.Present.{labels_now, clocks_now}
 use Rattle.run_laws.proofs.PresentLaw.{clocks_now-push}
 use Rattle.bare_machine.specs.World.{World}
 use Rattle.bare_machine.specs.Memory.{stripe}
@@ -23,7 +22,6 @@ use Rattle.place_turns.specs.Places as machine
 use Rattle.place_turns.specs.Turns as turns
 use Rattle.place_clocks.specs.Places as clock_places
 use Rattle.place_clocks.specs.Turns as clock_turns
-use Rattle.joint_turns.specs.Joint as joint
 use Rattle.joint_turns.specs.Joint.{Value, attach_turn}
 use Rattle.joint_turns.specs.Along as along
 use Rattle.watched_turns.specs.Checking.{checked_of}
@@ -34,18 +32,16 @@ use Rattle.watched_turns.proofs.Run.{era_watched}
 use Rattle.slot_desk.specs.Desks.{DeskContents, slot_of, thread_of}
 use Rattle.slot_desk.specs.Steps as desks
 use Rattle.slot_desk.proofs.HistorySlots.{front_is_free}
-use Rattle.race_core.specs.Watched.{Watched, labelled, with_clock}
+use Rattle.race_core.specs.Watched.{labelled, with_clock}
 use Rattle.race_core.specs.History.{era_now}
-use Rattle.thread_events.specs.Standing.{Kept, Stands}
+use Rattle.thread_events.specs.Standing.{Stands}
 use Rattle.thread_events.specs.Heard.{IsGiven, kept_attached, kept_left, kept_in_era, leaving_without}
 use Rattle.thread_events.proofs.Longer.{moment-seam, item-seam, length-push}
 use Rattle.thread_events.proofs.Notes.{slotless, nothing_stands, left_stands, attached_stands, era_stands}
-use Rattle.placed_detector.specs.Standing.{Hand, Held, kept_of, AreGiven, Standing, left_with}
-use Rattle.placed_detector.specs.Instructions.{Beside, beside}
-use Rattle.placed_detector.specs.Slots.{given_at, with_slot, TakesSlot, LeavesSlot, in_new_era}
+use Rattle.placed_detector.specs.Standing.{Hand, Held, kept_of, Standing, left_with}
+use Rattle.placed_detector.specs.Slots.{given_at, TakesSlot, LeavesSlot, in_new_era}
 use Rattle.placed_detector.proofs.Longer.{watched_stays}
-use Rattle.placed_detector.proofs.Fitting.{Fits, Elsewhere}
-use Rattle.placed_detector.proofs.Instructions.{dec, kept_changed, made_changed, stands_same}
+use Rattle.placed_detector.proofs.Instructions.{dec, kept_changed, stands_same}
 
 -- ---- a note tells one thing
 
@@ -204,14 +200,14 @@ module _ (file : List ℕ) (limits : Limits) (ok : image_of file ≡ Ok file) (c
     told_by : (queue : List ℕ) → queue ≡ label.sid ∷ tk.attaches.rest → map unchecked (clock_turns.attached t (m.local t).joint.own cd queue (m.value desk).clocks).told ≡ unchecked (Notes t (Attach label)) ∷ []
     told_by queue e = ap (λ (x : List ℕ). map unchecked (clock_turns.attached t (m.local t).joint.own cd x (m.value desk).clocks).told) e ∙ label_told (cd.last label.sid + 1) cd.era last_is era_is
 
-    told_is : (watched_turn file limits.harts g t attaches (m.local t) (m.value desk)).told ≡ unchecked (Notes t (Attach label)) ∷ []
+    pub told_is : (watched_turn file limits.harts g t attaches (m.local t) (m.value desk)).told ≡ unchecked (Notes t (Attach label)) ∷ []
     told_is = ap turned queue_is ∙ told_by cd.queue queue_is
 
     label_none : (m.local t).joint.own.label ≡ None
     label_none = s.watched.joint.clocks.own.label t ∙ (sym ((s.kept.watchers t).label tk.present) ∙ tk.attaches.unlabelled)
 
-    placed : IsPlaced file limits.harts g (m.local t) (m.value desk) t desk attaches
-    placed = ((refl, label_none, subst (λ (v : machine.Value). t < length (machine.desk_in v).made) (sym (s.values desk)) tk.known), tt)
+    pub attach_placed : IsPlaced file limits.harts g (m.local t) (m.value desk) t desk attaches
+    attach_placed = ((refl, label_none, subst (λ (v : machine.Value). t < length (machine.desk_in v).made) (sym (s.values desk)) tk.known), tt)
 
     -- the kept side
     kept_taken : Stands limits stripe s.leaving later (kept_of c_taken)
@@ -277,7 +273,7 @@ module _ (file : List ℕ) (limits : Limits) (ok : image_of file ≡ Ok file) (c
 
     pub taken_slot_stands : Standing file limits c_taken taken_then w later
     taken_slot_stands = record {
-      watched = noted file limits ok m w h s.watched t desk attaches (Attach label) mom is none placed told_is;
+      watched = noted file limits ok m w h s.watched t desk attaches (Attach label) mom is none attach_placed told_is;
       leaving = s.leaving;
       kept = kept_taken;
       given = λ u told q.

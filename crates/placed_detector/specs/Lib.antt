@@ -1,3 +1,4 @@
 pub mod Standing
 pub mod Instructions
 pub mod Slots
+pub mod First

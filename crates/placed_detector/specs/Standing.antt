@@ -1,5 +1,5 @@
 -- What workers keep of their threads and places, beside the watched machine and the history of their turns.
-use Rattle.std.specs.Prelude.{◌≡◌, ◌<◌, ◌≤◌, ℕ, Bool, List, length, Option, Some}
+use Rattle.std.specs.Prelude.{◌≡◌, ◌<◌, ℕ, Bool, List, length, Option, Some}
 use Rattle.run_record.specs.declared.limits.Limits.{Limits}
 use Rattle.run_laws.specs.Moments.{Moment}
 use Rattle.bare_machine.specs.World.{World}

@@ -20,19 +20,26 @@ ghost use Rattle.run_record.specs.declared.entry.DeskNote.TheVariants.{Nothing, 
 ghost use Rattle.run_record.specs.declared.limits.Limits.{Limits};
 ghost use Rattle.elf_image.specs.File.{image_of};
 ghost use Rattle.run_laws.specs.Moments.{Notes, NewEra, Moment};
-ghost use Rattle.bare_machine.specs.World.{World};
+ghost use Rattle.bare_machine.specs.World.{World, start};
 ghost use Rattle.bare_machine.specs.Step.{desk};
 ghost use Rattle.turn_orders.specs.Machine.{State, next, single};
 ghost use Rattle.joint_turns.specs.Joint as joint;
 ghost use Rattle.joint_turns.specs.Joint.{Value};
 ghost use Rattle.joint_turns.specs.Along as along;
 ghost use Rattle.watched_turns.specs.Checking.{Loads};
-ghost use Rattle.watched_turns.specs.Turns.{Local, steps, begins, attaches, leaves, watched_turn, era_after};
+ghost use Rattle.watched_turns.specs.Turns.{Local, steps, begins, attaches, leaves, watched_turn, era_after, first_state};
 ghost use Rattle.watched_turns.specs.Along.{IsWatched};
 ghost use Rattle.race_core.specs.History.{era_now};
+ghost use Rattle.race_core.specs.Watched.{AreWatcherLimits};
 ghost use Rattle.placed_detector.specs.Standing.{Hand, Held, Standing, left_with};
 ghost use Rattle.placed_detector.specs.Instructions.{AreHeard, MakesInstruction};
+ghost use Rattle.placed_detector.specs.First.{first_hands};
 ghost use Rattle.placed_detector.specs.Slots.{TakesSlot, LeavesSlot, in_new_era};
+
+/// All stands before any history, where no thread has arrived, memory is as the file has it, and the main thread is at the desk.
+pub fn first_law()
+    ensures { (file : List ℕ) (limits : Limits) → AreWatcherLimits limits → Standing file limits (first_hands file limits) (first_state file limits.slots) (start file limits.harts) [] }
+{}
 
 /// A thread makes an instruction at a place, with all its events, whose moments the history then has. The watched machine makes
 /// it too, by the words that the checks loaded, and all stands.

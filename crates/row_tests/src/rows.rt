@@ -3,6 +3,7 @@ mod closure;
 mod counted;
 mod endings;
 mod line_tables;
+mod locks;
 mod made;
 mod named;
 mod plans;

@@ -1,19 +1,21 @@
 -- Two calls with the same words over the same files write the same.
 use Rattle.std.proofs.Common.{◌≡◌, ℕ, ◌≤◌, List, ◌++◌, Option, Some, None, Result, Ok, Err, refl, sym, ap, ap₂, subst, ◌∙◌}
-use Rattle.std.specs.Prelude.{map, string_bytes}
+use Rattle.std.specs.Prelude.{map, string_bytes, nat_lt, if◌then◌else◌}
 use Rattle.std.specs.declared.string.String.{String}
 use Rattle.std.specs.declared.alloc.Global.{Global}
 use Rattle.std.specs.Option.{option_map}
 use Rattle.run_record.specs.declared.finished.Finished.{Finished}
 use Rattle.run_laws.specs.Faithful.{Mode, OneByOne}
 use Rattle.command_words.specs.declared.request.UsageFault.{UsageFault}
-use Rattle.command_words.specs.Requests.{RequestText, TaskText, run, step, generate, request_of}
+use Rattle.command_words.specs.Requests.{RequestText, TaskText, run, step, locks, generate, request_of}
 use Rattle.suppress_rules.specs.declared.rule.Rule.{Rule}
 use Rattle.suppress_rules.specs.RuleFile.{rules_of}
-use Rattle.report_text.specs.Status.{status_of}
+use Rattle.report_text.specs.Status.{end_status}
+use Rattle.run_laws.specs.Moments.{moments}
+use Rattle.lock_order.proofs.SameText.{same_text}
 use Rattle.whole_runs.specs.Run.{IsRun}
 use Rattle.tsanrun_cli.specs.Ends.{served, one_by_one, mode_of, IsExecutable, AreRules, rules_file, suppressed_by, IsDone}
-use Rattle.tsanrun_cli.specs.Texts.{out_text, err_text}
+use Rattle.tsanrun_cli.specs.Texts.{Tells, out_text, err_text}
 use Rattle.tsanrun_cli.specs.Work.{call_of}
 use Rattle.same_run.proofs.Runs.{same_run}
 use Rattle.same_run.proofs.Words.{some_harts}
@@ -26,6 +28,7 @@ was_asked (Ok r) request q = by_task r.task refl
     by_task : (task : TaskText) → r.task ≡ task → ◌≡◌ {A = Result RequestText UsageFault} (Ok r) (Ok request)
     by_task (run file) t = absurd (let z = sym (ap (one_by_one r) t) ∙ q in cc)
     by_task (step file) t = sym (ap (one_by_one r) t) ∙ q
+    by_task (locks file) t = sym (ap (one_by_one r) t) ∙ q
     by_task (generate seed size) t = sym (ap (one_by_one r) t) ∙ q
 
 -- and its threads are stepped one at a time
@@ -36,11 +39,13 @@ stepped asked request q = by_task request.task refl
     by_task (run file) t =
         absurd (let z = sym (ap (one_by_one request) t) ∙ (sym (ap served (was_asked asked request q)) ∙ q) in cc)
     by_task (step file) t = ap mode_of t
+    by_task (locks file) t = ap mode_of t
     by_task (generate seed size) t = ap mode_of t
 
 same_executable : (files : List (List ℕ × List ℕ)) (task : TaskText) (bytes other : List ℕ) → IsExecutable (Some files) task bytes → IsExecutable (Some files) task other → bytes ≡ other
 same_executable files (run file) bytes other a b = let z = sym a.has ∙ b.has in cc
 same_executable files (step file) bytes other a b = let z = sym a.has ∙ b.has in cc
+same_executable files (locks file) bytes other a b = let z = sym a.has ∙ b.has in cc
 same_executable files (generate seed size) bytes other a b = a ∙ sym b
 
 same_rules : (files : List (List ℕ × List ℕ)) (name : Option (List ℕ)) (rules other : List Rule) → AreRules (Some files) name rules → AreRules (Some files) name other → rules ≡ other
@@ -50,6 +55,16 @@ same_rules files (Some name) rules other a b =
     let same : a.0 ≡ b.0 = cc in
     let z = sym a.2 ∙ (ap rules_of same ∙ b.2) in
     cc
+
+-- one text and one status tell of a run
+one_telling : (task : TaskText) (bytes : List ℕ) (f : Finished) (text other : List ℕ) (status code : ℕ) → Tells task bytes f text status → Tells task bytes f other code
+    → (text ≡ other) × (status ≡ code)
+one_telling (run file) bytes f text other status code a b = (a.text_is ∙ sym b.text_is, a.status_is ∙ sym b.status_is)
+one_telling (step file) bytes f text other status code a b = (a.text_is ∙ sym b.text_is, a.status_is ∙ sym b.status_is)
+one_telling (locks file) bytes f text other status code a b =
+    let same = same_text (moments f.history.entries) a.count b.count text other a.text_is b.text_is in
+    (same.1, a.status_is ∙ (ap (λ (n : ℕ). if nat_lt 0 n then 66 else end_status f.last.end) same.0 ∙ sym b.status_is))
+one_telling (generate seed size) bytes f text other status code a b = (a.text_is ∙ sym b.text_is, a.status_is ∙ sym b.status_is)
 
 abbrev appended : Option (List ℕ) → List ℕ → Option (List ℕ)
 appended old bytes = option_map (λ (o : List ℕ). o ++ bytes) old
@@ -63,9 +78,9 @@ module _ (words : List (String Global)) (before after reads more : ℕ) (failed 
       a.bytes ≡ b.bytes → a.run.rules ≡ b.run.rules → (f ≡ other) × (out_new ≡ out_other) × (err_new ≡ err_other) × (status ≡ code)
   same_call told known a b bytes rules = (
     finished,
-    a.output ∙ (ap (appended out_old) (texts out_text) ∙ sym b.output),
-    a.text ∙ (ap (appended err_old) (texts err_text) ∙ sym b.text),
-    a.status_is ∙ (ap status_of finished ∙ sym b.status_is),
+    a.output ∙ (ap (appended out_old) outputs ∙ sym b.output),
+    a.text ∙ (ap (appended err_old) texts ∙ sym b.text),
+    tellings.1,
   )
     where
       request : a.request ≡ b.request
@@ -90,10 +105,22 @@ module _ (words : List (String Global)) (before after reads more : ℕ) (failed 
           (subst (λ (m : Mode). IsRun m a.bytes a.request.limits a.request.plan (suppressed_by a.run.rules a.bytes) f) one_at_a_time a.run.is_run)
           (subst (λ (m : Mode). IsRun m a.bytes a.request.limits a.request.plan (suppressed_by a.run.rules a.bytes) other) one_at_a_time others_run)
 
-      texts : (write : TaskText → List ℕ → Finished → List ℕ) → write a.request.task a.bytes f ≡ write b.request.task b.bytes other
-      texts write =
-          ap (λ (r : RequestText). write r.task a.bytes f) request
-          ∙ ap₂ (λ (bs : List ℕ) (g : Finished). write b.request.task bs g) bytes finished
+      others_tell : Tells a.request.task a.bytes f b.told code
+      others_tell =
+          subst (λ (r : RequestText). Tells r.task a.bytes f b.told code) (sym request)
+          (subst (λ (bs : List ℕ). Tells b.request.task bs f b.told code) (sym bytes)
+          (subst (λ (g : Finished). Tells b.request.task b.bytes g b.told code) (sym finished) b.tells))
+
+      tellings : (a.told ≡ b.told) × (status ≡ code)
+      tellings = one_telling a.request.task a.bytes f a.told b.told status code a.tells others_tell
+
+      outputs : out_text a.request.task a.told f ≡ out_text b.request.task b.told other
+      outputs =
+          ap (λ (r : RequestText). out_text r.task a.told f) request
+          ∙ ap₂ (λ (t : List ℕ) (g : Finished). out_text b.request.task t g) tellings.0 finished
+
+      texts : err_text a.request.task a.told ≡ err_text b.request.task b.told
+      texts = ap (λ (r : RequestText). err_text r.task a.told) request ∙ ap (err_text b.request.task) tellings.0
 
   pub same_over_files : (files : List (List ℕ × List ℕ)) → IsDone (call_of words (Some files) before after failed) out_old out_new err_old err_new status f → IsDone (call_of words (Some files) reads more missed) out_old out_other err_old err_other code other →
       (f ≡ other) × (out_new ≡ out_other) × (err_new ≡ err_other) × (status ≡ code)

@@ -7,7 +7,7 @@ use Rattle.elf_image.specs.declared.fault.ElfFault.{ElfFault}
 use Rattle.elf_image.specs.File.{image_of}
 use Rattle.command_words.specs.declared.request.UsageFault.{UsageFault}
 use Rattle.command_words.specs.declared.request.UsageFault.TheVariants as usage
-use Rattle.command_words.specs.Requests.{TaskText, run, step, generate, RequestText}
+use Rattle.command_words.specs.Requests.{TaskText, run, step, locks, generate, RequestText}
 use Rattle.gen_program.specs.Program.{program}
 use Rattle.symbol_lines.specs.Frames.{tables_of, frame_in}
 use Rattle.suppress_rules.specs.declared.rule.Rule.{Rule}
@@ -15,13 +15,12 @@ use Rattle.suppress_rules.specs.declared.fault.RuleFault.{RuleFault}
 use Rattle.suppress_rules.specs.RuleFile.{rules_of}
 use Rattle.suppress_rules.specs.Stacks.{first_met, places_of}
 use Rattle.report_text.specs.Offers.{is_met}
-use Rattle.report_text.specs.Status.{status_of}
 use Rattle.run_laws.specs.Faithful.{Mode, OneByOne, AtOnce}
 use Rattle.whole_runs.specs.Run.{IsRun}
 use Rattle.run_record.specs.declared.finished.Finished.{Finished}
 use Rattle.tsanrun_cli.specs.declared.ended.End.{End}
 use Rattle.tsanrun_cli.specs.declared.ended.End.TheVariants.{Done, Usage, Elf, Rules, FileTooLong, ReadFault, WriteFault, NoMemory}
-use Rattle.tsanrun_cli.specs.Texts.{out_text, err_text}
+use Rattle.tsanrun_cli.specs.Texts.{Tells, out_text, err_text}
 
 -- the greatest length of an executable and of a file of rules
 abbrev pub file_limit : ℕ
@@ -31,6 +30,7 @@ file_limit = 25165824
 abbrev pub one_by_one : RequestText → TaskText → Result RequestText UsageFault
 one_by_one request (run file) = Err usage.Command
 one_by_one request (step file) = Ok request
+one_by_one request (locks file) = Ok request
 one_by_one request (generate seed size) = Ok request
 
 abbrev pub served : Result RequestText UsageFault → Result RequestText UsageFault
@@ -65,6 +65,7 @@ pub record HasLongFile (told : Option (List (List ℕ × List ℕ))) (name : Lis
 abbrev pub named_executable : TaskText → Option (List ℕ)
 named_executable (run file) = Some file
 named_executable (step file) = Some file
+named_executable (locks file) = Some file
 named_executable (generate seed size) = None
 
 -- the words ask to run that file, with its threads at once or one at a time
@@ -84,18 +85,21 @@ pub record ExecutesAccepted (call : Call) (request : RequestText) (file bytes : 
 abbrev pub mode_of : TaskText → Mode
 mode_of (run file) = AtOnce
 mode_of (step file) = OneByOne
+mode_of (locks file) = OneByOne
 mode_of (generate seed size) = OneByOne
 
 -- the executable of a task: the named file's bytes, or those of the made program
 abbrev pub IsExecutable : Option (List (List ℕ × List ℕ)) → TaskText → List ℕ → Type 0
 IsExecutable told (run file) bytes = HasShortFile told file bytes
 IsExecutable told (step file) bytes = HasShortFile told file bytes
+IsExecutable told (locks file) bytes = HasShortFile told file bytes
 IsExecutable told (generate seed size) bytes = bytes ≡ program seed size
 
 -- the name of the file of rules that a task reads: a made program is run without rules
 abbrev pub rules_file : TaskText → Option (List ℕ) → Option (List ℕ)
 rules_file (run file) name = name
 rules_file (step file) name = name
+rules_file (locks file) name = name
 rules_file (generate seed size) name = None
 
 -- the rules of the named file, and none without one
@@ -232,9 +236,10 @@ pub record IsDone (call : Call) (out_old out_new err_old err_new : Option (List 
   pub request : RequestText
   pub bytes : List ℕ
   pub run : IsRunOf call request bytes f
-  pub output : Appends out_old out_new (out_text request.task bytes f)
-  pub text : Appends err_old err_new (err_text request.task bytes f)
-  pub status_is : status ≡ status_of f
+  pub told : List ℕ
+  pub tells : Tells request.task bytes f told status
+  pub output : Appends out_old out_new (out_text request.task told f)
+  pub text : Appends err_old err_new (err_text request.task told)
 
 -- What a call has left whose writing failed: of some run that it serves, a part of what goes to the output and nothing else, or all of that
 -- and a part of what goes to the other sink.
@@ -243,9 +248,12 @@ pub record IsCutOff (call : Call) (out_old out_new err_old err_new : Option (Lis
   pub bytes : List ℕ
   pub finished : Finished
   pub run : IsRunOf call request bytes finished
+  pub told : List ℕ
+  pub status : ℕ
+  pub tells : Tells request.task bytes finished told status
   pub written :
-      (AppendsPart out_old out_new (out_text request.task bytes finished) × (err_new ≡ err_old))
-      ⊎ (Appends out_old out_new (out_text request.task bytes finished) × AppendsPart err_old err_new (err_text request.task bytes finished))
+      (AppendsPart out_old out_new (out_text request.task told finished) × (err_new ≡ err_old))
+      ⊎ (Appends out_old out_new (out_text request.task told finished) × AppendsPart err_old err_new (err_text request.task told))
 
 -- ---- how a call is to end
 
@@ -274,6 +282,7 @@ end_by_executable after bytes = if nat_lt file_limit (length bytes) then Some Fi
 abbrev pub end_by_task : List (List ℕ × List ℕ) → Option (List ℕ) → TaskText → Option End
 end_by_task files rules (run file) = option_and_then (end_by_executable (end_by_rules_file files rules)) (file_named file files)
 end_by_task files rules (step file) = option_and_then (end_by_executable (end_by_rules_file files rules)) (file_named file files)
+end_by_task files rules (locks file) = option_and_then (end_by_executable (end_by_rules_file files rules)) (file_named file files)
 end_by_task files rules (generate seed size) = Some Done
 
 -- How a call ends by what its words ask for and by what the files tell, where no read or put fails and memory doesn't run out. None where

@@ -1,15 +1,18 @@
 -- What is written.
-use Rattle.std.specs.Prelude.{ℕ, Bool, true, false, List, [], ◌++◌, codes, length, if◌then◌else◌}
+use Rattle.std.specs.Prelude.{◌≡◌, ℕ, Bool, true, false, List, [], ◌++◌, codes, length, nat_lt, if◌then◌else◌}
 use Rattle.std.specs.List.{flat_map}
 use Rattle.std.specs.Fmt.{decimal}
 use Rattle.run_record.specs.declared.finished.Finished.{Finished}
 use Rattle.elf_image.specs.declared.fault.ElfFault.{ElfFault}
 use Rattle.elf_image.specs.declared.fault.ElfFault.TheVariants as faults
-use Rattle.command_words.specs.Requests.{TaskText, run, step, generate}
+use Rattle.command_words.specs.Requests.{TaskText, run, step, locks, generate}
 use Rattle.symbol_lines.specs.Frames.{tables_of, frame_in}
 use Rattle.suppress_rules.specs.declared.fault.RuleFault.{RuleFault}
 use Rattle.suppress_rules.specs.declared.fault.RuleFault.TheVariants as rules
 use Rattle.report_text.specs.Texts.{report_text, summary_of}
+use Rattle.report_text.specs.Status.{status_of, end_status}
+use Rattle.run_laws.specs.Moments.{moments}
+use Rattle.lock_order.specs.Texts.{IsLockText}
 use Rattle.tsanrun_cli.specs.declared.ended.End.{End}
 use Rattle.tsanrun_cli.specs.declared.ended.End.TheVariants.{Done, Usage, Elf, Rules, FileTooLong, ReadFault, WriteFault, NoMemory}
 
@@ -18,29 +21,50 @@ abbrev pub made_line : ℕ → ℕ → ℕ → List ℕ
 made_line seed size bytes = codes "gen: seed " ++ (decimal seed ++ (codes ", size " ++ (decimal size ++ (codes ", file " ++ (decimal bytes ++ codes " bytes\n")))))
 
 -- what stands before the last line: for a file the text of each report in order, with the names that the executable's tables
--- tell, and for a made program its line
+-- tell, and for a made program its line; `locks` tells no report
 abbrev pub before_summary : TaskText → List ℕ → Finished → List ℕ
 before_summary (run file) bytes f = flat_map (report_text (frame_in (tables_of bytes))) f.reports
 before_summary (step file) bytes f = flat_map (report_text (frame_in (tables_of bytes))) f.reports
+before_summary (locks file) bytes f = []
 before_summary (generate seed size) bytes f = made_line seed size (length bytes)
 
 -- what tells of the run of an executable
 abbrev pub text_of : TaskText → List ℕ → Finished → List ℕ
 text_of task bytes f = before_summary task bytes f ++ summary_of f
 
--- the executable is made
-abbrev pub is_made : TaskText → Bool
-is_made (run file) = false
-is_made (step file) = false
-is_made (generate seed size) = true
+-- The text and the status tell of a run by its reports.
+pub record TellsReports (task : TaskText) (bytes : List ℕ) (f : Finished) (text : List ℕ) (status : ℕ) : Type 0 where
+  pub text_is : text ≡ text_of task bytes f
+  pub status_is : status ≡ status_of f
 
--- what is put on the output: what the guest put, or what tells of the run of a made program
+-- The text and the status tell of a run by the cycles in the order in which its threads took mutexes. Where there is one the status
+-- is 66, and else that of the run's end, whether or not there are reports.
+pub record TellsLocks (f : Finished) (text : List ℕ) (status : ℕ) : Type 0 where
+  pub count : ℕ
+  pub text_is : IsLockText (moments f.history.entries) count text
+  pub status_is : status ≡ (if nat_lt 0 count then 66 else end_status f.last.end)
+
+-- the text and the status tell of the run of an executable, as the task has it
+abbrev pub Tells : TaskText → List ℕ → Finished → List ℕ → ℕ → Type 0
+Tells (run file) bytes f text status = TellsReports (run file) bytes f text status
+Tells (step file) bytes f text status = TellsReports (step file) bytes f text status
+Tells (locks file) bytes f text status = TellsLocks f text status
+Tells (generate seed size) bytes f text status = TellsReports (generate seed size) bytes f text status
+
+-- what tells of the run is put on the output, alone: of a made program and of the order of mutexes
+abbrev pub is_alone : TaskText → Bool
+is_alone (run file) = false
+is_alone (step file) = false
+is_alone (locks file) = true
+is_alone (generate seed size) = true
+
+-- what is put on the output: what the guest put, or the text that tells of the run
 abbrev pub out_text : TaskText → List ℕ → Finished → List ℕ
-out_text task bytes f = if is_made task then text_of task bytes f else f.output
+out_text task text f = if is_alone task then text else f.output
 
 -- what is put on the other sink
-abbrev pub err_text : TaskText → List ℕ → Finished → List ℕ
-err_text task bytes f = if is_made task then [] else text_of task bytes f
+abbrev pub err_text : TaskText → List ℕ → List ℕ
+err_text task text = if is_alone task then [] else text
 
 -- the faults of an executable by number and name
 abbrev pub executable_line : ElfFault → List ℕ

@@ -13,7 +13,7 @@ use Rattle.tsanrun_cli.specs.declared.work.Told.{Told}
 use Rattle.tsanrun_cli.specs.declared.ended.End.{End}
 use Rattle.tsanrun_cli.specs.declared.ended.End.TheVariants.{Done, Usage, Elf, Rules, FileTooLong, ReadFault, WriteFault, NoMemory}
 use Rattle.tsanrun_cli.specs.Ends.{Call, served, HasShortFile, HasLongFile, AreRules, IsRunOf, mode_of, suppressed_by}
-use Rattle.tsanrun_cli.specs.Texts.{text_of, is_made}
+use Rattle.tsanrun_cli.specs.Texts.{Tells, is_alone}
 
 abbrev pub call_of : List (String Global) → Option (List (List ℕ × List ℕ)) → ℕ → ℕ → List ℕ → Call
 call_of words told before after failed = record { asked = served (request_of (map string_bytes words)); told = told; reads_before = before; reads_after = after; failed = failed }
@@ -28,24 +28,24 @@ bytes_of text = text.items
 
 -- the pieces that go to the output, and those that go to the other sink, put together
 abbrev pub out_bytes : Told → List ℕ
-out_bytes t = if t.made then flat_map bytes_of t.texts.items else t.finished.output
+out_bytes t = if t.alone then flat_map bytes_of t.texts.items else t.finished.output
 
 abbrev pub err_bytes : Told → List ℕ
-err_bytes t = if t.made then [] else flat_map bytes_of t.texts.items
+err_bytes t = if t.alone then [] else flat_map bytes_of t.texts.items
 
 -- a run that the call serves, and what tells of it
 pub record HasRun (call : Call) (t : Told) : Type 0 where
   pub request : RequestText
   pub bytes : List ℕ
   pub run : IsRunOf call request bytes t.finished
-  pub texts_are : flat_map bytes_of t.texts.items ≡ text_of request.task bytes t.finished
-  pub made_is : t.made ≡ is_made request.task
+  pub tells : Tells request.task bytes t.finished (flat_map bytes_of t.texts.items) t.status
+  pub alone_is : t.alone ≡ is_alone request.task
 
 -- the run of an executable by the request, and what tells of it
 pub record IsTold (request : RequestText) (bytes : List ℕ) (rules : List Rule) (t : Told) : Type 0 where
   pub run : IsRun (mode_of request.task) bytes request.limits request.plan (suppressed_by rules bytes) t.finished
-  pub texts_are : flat_map bytes_of t.texts.items ≡ text_of request.task bytes t.finished
-  pub made_is : t.made ≡ is_made request.task
+  pub tells : Tells request.task bytes t.finished (flat_map bytes_of t.texts.items) t.status
+  pub alone_is : t.alone ≡ is_alone request.task
 
 -- ---- reads
 

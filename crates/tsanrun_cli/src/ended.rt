@@ -28,7 +28,7 @@ pub enum End {
 /// What a call answers.
 #[derive(Drop)]
 pub struct Ended {
-    /// The exit status: after `Done` 66 where there is a report, else 9 for a guest's fault, 8 for a
+    /// The exit status: after `Done` 66 where there is a report, or of `locks` a cycle, else 9 for a guest's fault, 8 for a
     /// spent budget, 1 for an exit with another status than 0, and else 0; otherwise 2 for `Usage`, 3
     /// for `Elf` and `FileTooLong`, 4 for `Rules`, 5 for `ReadFault`, 6 for `WriteFault`, 7 for
     /// `NoMemory`.

@@ -10,7 +10,6 @@ ghost use Rattle.tsanrun_cli.specs.Texts.{refusal_line, is_rules};
 use crate::refusals::{status_of as refusal_status, told_refusal, unread_words_end};
 use crate::work::{Told, work};
 use crate::{End, Ended};
-use report_text::status_of;
 use std::alloc::Global;
 use std::io::ErrorKind;
 use tool_ports::{Files, Sink, SinkFailed};
@@ -51,15 +50,14 @@ fn put_all<O: Sink>(out: &mut O, pieces: &[Vec<u8>]) -> Result<(), SinkFailed>
     Ok(())
 }
 
-/// Puts a run's output on one sink, and what tells of it on the other; or what tells of the run of a made program, alone, on the
-/// first.
+/// Puts a run's output on one sink, and what tells of it on the other; or what tells of it, alone, on the first.
 fn write<O: Sink, E: Sink>(told: &Told, out: &mut O, err: &mut E) -> Result<(), SinkFailed>
     ensures output { OnOk result (Appends (O.contents out.old) (O.contents out.new) (out_bytes told.now)) }
     ensures texts { OnOk result (Appends (E.contents err.old) (E.contents err.new) (err_bytes told.now)) }
     ensures cause { OnErr result (Rose (O.faults out.old) (O.faults out.new) ⊎ Rose (E.faults err.old) (E.faults err.new)) }
     ensures cut { OnErr result ((AppendsPart (O.contents out.old) (O.contents out.new) (out_bytes told.now) × (E.contents err.new ≡ E.contents err.old)) ⊎ (Appends (O.contents out.old) (O.contents out.new) (out_bytes told.now) × AppendsPart (E.contents err.old) (E.contents err.new) (err_bytes told.now))) }
 {
-    if told.made {
+    if told.alone {
         return put_all(out, &told.texts);
     }
     if put_some(out, told.finished.output.as_slice()).is_err() {
@@ -115,7 +113,8 @@ pub fn tool_step<F: Files, O: Sink, E: Sink>(
     ensures files { F.contents files.new ≡ F.contents files.old }
 
     // A call that is done keeps a run that its words ask for, each of whose reports stands for a race. The guest's output was
-    // appended to one sink, and the text of each report and the last line to the other; of a made program two lines to the first.
+    // appended to one sink, and the text of each report and the last line to the other; of a made program two lines to the first,
+    // and so the text of `locks`.
     ensures done { result.end ≡ End.Done → IsSomeAnd result.kept (IsDone
         (call_of words.now (F.contents files.old) (F.faults files.old) (F.faults files.new) (F.failed files.new))
         (O.contents out.old) (O.contents out.new) (E.contents err.old) (E.contents err.new) result.status) }
@@ -144,7 +143,7 @@ pub fn tool_step<F: Files, O: Sink, E: Sink>(
         Err(end) => refuse(alloc, end, err),
         Ok(told) => match write(&told, out, err) {
             Ok(()) => Ended {
-                status: status_of(&told.finished),
+                status: told.status,
                 end: End::Done,
                 kept: Some(told.finished),
             },

@@ -1,14 +1,15 @@
 // From the words to a run and the texts that tell of it.
-ghost use Rattle.std.specs.Prelude.{◌≡◌, ◌≤◌, ℕ, List, [], Ok, IfOk, MatchResult};
+ghost use Rattle.std.specs.Prelude.{◌≡◌, ◌≤◌, ℕ, List, [], Ok, Some, IfOk, MatchResult, nat_lt, if◌then◌else◌};
 ghost use Rattle.std.specs.Option.{option_map};
 ghost use Rattle.elf_image.specs.File.{image_of};
-ghost use Rattle.command_words.specs.Requests.{request_text, step as asks_step, generate as asks_generate};
+ghost use Rattle.command_words.specs.Requests.{request_text, step as asks_step, locks as asks_locks, generate as asks_generate};
 ghost use Rattle.gen_program.specs.Program.{program};
 ghost use Rattle.symbol_lines.specs.Frames.{tables_of};
 ghost use Rattle.whole_runs.specs.Run.{IsRun};
 ghost use Rattle.run_laws.specs.Faithful.{OneByOne};
 ghost use Rattle.thread_turns.specs.Ranges.{AreLimits};
-ghost use Rattle.tsanrun_cli.specs.Ends.{Refuses, suppressed_by};
+ghost use Rattle.report_text.specs.Status as status;
+ghost use Rattle.tsanrun_cli.specs.Ends.{Refuses, suppressed_by, named_executable, mode_of};
 ghost use Rattle.tsanrun_cli.specs.Work.{HasRun, IsTold, IsRead, AreRulesRead, call_of, asking};
 
 use crate::End;
@@ -17,7 +18,9 @@ use crate::texts::{made_texts, report_texts};
 use command_words::{Refusal, Request, Task, UsageFault, read_words};
 use elf_image::{ElfFault, Image, load};
 use gen_program::make;
-use run_record::{Finished, NoMemory};
+use lock_order::lock_text;
+use report_text::{end_status, status_of};
+use run_record::{Finished, GuestEnd, NoMemory};
 use std::alloc::Global;
 use step_engine::run_plan;
 use suppress_rules::{RuleFault, Rules};
@@ -29,8 +32,9 @@ use tool_ports::{FileFault, Files};
 pub struct Told {
     pub finished: Finished,
     pub texts: Vec<Vec<u8>>,
-    /// The executable was made, and isn't a file's.
-    pub made: bool,
+    /// The pieces alone are put, on the output.
+    pub alone: bool,
+    pub status: u8,
 }
 
 const FILE_LIMIT: usize = 25_165_824;
@@ -48,7 +52,7 @@ pub fn work<F: Files>(alloc: Global, words: &[String], files: &mut F) -> Result<
     };
     match request.task {
         Task::Run { .. } => Err(End::Usage(UsageFault::Command)),
-        Task::Step { file } => step(alloc, &request, file, files),
+        Task::Step { file } | Task::Locks { file } => step(alloc, &request, file, files),
         Task::Generate { seed, size } => match generate(alloc, &request, seed, size) {
             Ok(told) => Ok(told),
             Err(NoMemory) => Err(End::NoMemory),
@@ -93,7 +97,8 @@ fn step<F: Files>(
     files: &mut F,
 ) -> Result<Told, End>
     requires limits { AreLimits request.now.limits }
-    requires task { (request_text request.now).task ≡ asks_step file.now }
+    requires names { named_executable (request_text request.now).task ≡ Some file.now }
+    requires mode { mode_of (request_text request.now).task ≡ OneByOne }
     ensures same { F.contents files.new ≡ F.contents files.old }
     ensures run { let call = asking (request_text request.now) (F.contents files.old) (F.faults files.old) (F.faults files.new) (F.failed files.new) in
         MatchResult result (HasRun call) (Refuses call) }
@@ -105,7 +110,7 @@ fn step<F: Files>(
         Err(fault) => return Err(End::Elf(fault)),
     };
     let rules = read_rules(alloc, files, request.suppressions)?;
-    match step_image(alloc, &image, request, &rules) {
+    match told_image(alloc, &image, request, &rules) {
         Ok(told) => Ok(told),
         Err(NoMemory) => Err(End::NoMemory),
     }
@@ -141,11 +146,61 @@ fn step_image(
     let names = Names::read(alloc, image)?;
     let finished = run_named(alloc, image, &names, request, rules)?;
     let texts = report_texts(alloc, &finished, &names)?;
+    let status = status_of(&finished);
     Ok(Told {
         finished,
         texts,
-        made: false,
+        alone: false,
+        status,
     })
+}
+
+/// The status of `locks`: 66 where there is a cycle, and else that of the run's end.
+fn lock_status(count: usize, end: GuestEnd) -> u8
+    ensures { result ≡ (if nat_lt 0 count then 66 else status.end_status end) }
+{
+    if count > 0 { 66 } else { end_status(end) }
+}
+
+/// The run of an executable, with the cycles in the order in which its threads took mutexes.
+fn lock_image(
+    alloc: Global,
+    image: &Image<'_>,
+    request: &Request<'_>,
+    rules: &Rules,
+) -> Result<Told, NoMemory>
+    requires limits { AreLimits request.now.limits }
+    ensures { (file : List ℕ) → (request_text request.now).task ≡ asks_locks file → IfOk result (IsTold (request_text request.now) image.now rules.now) }
+{
+    let names = Names::read(alloc, image)?;
+    let finished = run_named(alloc, image, &names, request, rules)?;
+    let orders = lock_text(alloc, &finished.history)?;
+    let status = lock_status(orders.count, finished.last.end);
+    Ok(Told {
+        finished,
+        texts: orders.texts,
+        alone: true,
+        status,
+    })
+}
+
+/// The run of an executable, with what its task wants told of it.
+fn told_image(
+    alloc: Global,
+    image: &Image<'_>,
+    request: &Request<'_>,
+    rules: &Rules,
+) -> Result<Told, NoMemory>
+    requires limits { AreLimits request.now.limits }
+    ensures reports { (file : List ℕ) → (request_text request.now).task ≡ asks_step file → IfOk result (IsTold (request_text request.now) image.now rules.now) }
+    ensures orders { (file : List ℕ) → (request_text request.now).task ≡ asks_locks file → IfOk result (IsTold (request_text request.now) image.now rules.now) }
+{
+    match request.task {
+        Task::Locks { .. } => lock_image(alloc, image, request, rules),
+        Task::Run { .. } | Task::Step { .. } | Task::Generate { .. } => {
+            step_image(alloc, image, request, rules)
+        }
+    }
 }
 
 /// The run of a made program, without rules.
@@ -162,9 +217,11 @@ fn generate(alloc: Global, request: &Request<'_>, seed: u32, size: u32) -> Resul
     let rules = Rules::none(alloc);
     let finished = run_named(alloc, &image, &names, request, &rules)?;
     let texts = made_texts(alloc, seed, size, bytes.len(), &finished)?;
+    let status = status_of(&finished);
     Ok(Told {
         finished,
         texts,
-        made: true,
+        alone: true,
+        status,
     })
 }

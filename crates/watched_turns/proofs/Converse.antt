@@ -1,6 +1,6 @@
 -- A history whose moments are right is what the watched turn tells.
 use Rattle.std.proofs.Common.{◌≡◌, ℕ, ◌+◌, suc, List, [], ◌∷◌, length, Option, Some, None, refl, sym, ap, ap₂, subst, ◌∙◌, arith}
-use Rattle.std.specs.Prelude.{map, option_map, ◌%◌, Ok}
+use Rattle.std.specs.Prelude.{map, ◌%◌, Ok}
 use Rattle.std.specs.List.{AllZip}
 use Rattle.run_record.specs.declared.event.Event.{Event}
 use Rattle.run_record.specs.declared.entry.Check.{Check}
@@ -9,7 +9,7 @@ use Rattle.elf_image.specs.File.{granule_of, image_of}
 use Rattle.run_laws.specs.Moments.{Moment, moment_at, items}
 use Rattle.run_laws.specs.Accesses.{Access, access_of, Part, parts_of}
 use Rattle.run_laws.specs.Labels.{label_of}
-use Rattle.run_laws.specs.Words.{word_of, cell_for}
+use Rattle.run_laws.specs.Words.{word_of}
 use Rattle.run_laws.specs.Window.{TraceEvent, trace_before}
 use Rattle.run_laws.specs.Checks.{ChecksPart, AreChecks, StoresRightly}
 use Rattle.bare_machine.specs.World.{World}
@@ -26,7 +26,7 @@ use Rattle.joint_turns.specs.Joint.{clocks_of}
 use Rattle.joint_turns.proofs.Together.{steps_may}
 use Rattle.watched_turns.specs.Watch.{Watch, watch_after}
 use Rattle.watched_turns.specs.Checking.{Checked, checked_of, check_of, checks_from, checks_of, Loads, four}
-use Rattle.watched_turns.specs.Turns.{Local, Told, events_told, events_of, steps, watched_turn, joint_of}
+use Rattle.watched_turns.specs.Turns.{Local, events_told, events_of, steps, watched_turn, joint_of}
 use Rattle.watched_turns.specs.Along.{StandFrom, HasWatch, IsWatched}
 use Rattle.watched_turns.proofs.Events.{event_watches}
 use Rattle.watched_turns.specs.Right.{AreLoaded, AreEvents}
@@ -82,11 +82,10 @@ module _ (file : List ℕ) (g slots : ℕ) (h : List Moment) (t k : ℕ) (loads 
       let turn : length w.trace % 4 ≡ length (trace_before g (items h) n t) % 4 = ap (λ (x : Watch). length x.trace % 4) (sym mw) ∙ ap (λ (xs : List TraceEvent). length xs % 4) (kept t).trace in
       let one : Watch = watch_after g o.label w e in
       let step = event_watches g h n t e are.0 o.label label_then watch kept in
-      let same : but watch t (watch_after g o.label (watch t) e) ≡ but watch t one = ap (λ (x : Watch). but watch t (watch_after g o.label x e)) mw in
-      (
+      let same : but watch t (watch_after g o.label (watch t) e) ≡ but watch t one = ap (λ (x : Watch). but watch t (watch_after g o.label x e)) mw in (
         record { item = are.0; checks = checks_told file g h n t (length w.trace % 4) turn (loads i) o.label (access_of e) label are.1 are.2 are.3 },
         events_stand (suc n) (next (clock_turn g) m c) (but watch t one) (i + 1) (own_after g e o v) (value_after g t e o v) one es own its (but_here watch t t one refl)
-        after may.1 (λ u. subst (λ (f : ℕ → Watch). HasWatch g h (suc n) u (f u)) same (step u)) are.4,
+            after may.1 (λ u. subst (λ (f : ℕ → Watch). HasWatch g h (suc n) u (f u)) same (step u)) are.4,
       )
 
 -- the turn of an instruction

@@ -1,3 +1,5 @@
+use Rattle.std.specs.List.{flat_map}
+use Rattle.tsanrun_cli.specs.Work.{bytes_of}
 use Rattle.tsanrun_cli.proofs.Complete.{complete_from, refused_complete, out_is, err_is}
 use Rattle.tsanrun_cli.proofs.tool.tool_step.Goals as goal
 
@@ -18,5 +20,8 @@ returns-in-Err-write-clause-cut g c = λ e.
       bytes = run.bytes;
       finished = c.in-Ok.told.finished;
       run = run.run;
+      told = flat_map bytes_of c.in-Ok.told.texts.items;
+      status = c.in-Ok.told.status;
+      tells = run.tells;
       written = rw (out_is _ _ run, err_is _ _ run) at c.in-Err-write.ensures.cut;
     }

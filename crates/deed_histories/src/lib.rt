@@ -1,0 +1,43 @@
+//! The deeds of workers as turns of the watched machine, and the entries that tell them.
+//!
+//! A worker says of each of its deeds what it did: a slot that its thread took or left, or instructions of which only the last
+//! uses an object, with the events and the checks of each; and it leaves an entry of them (`IsDeed`). The laws say that the
+//! watched machine makes each deed as one turn which the entry tells, and that it follows all deeds of a line, with the same
+//! stamps: its own deeds line up, and all that workers and places keep stands in the history with their entries.
+//!
+//! `placed_detector`, `turn_histories` and `woven_turns` stand below this crate, with what is below them. Its functions do nothing:
+//! the contract of each is a law. The layer above has the line of a round from `woven_turns`, and gives the deeds of the watched
+//! machine to `turn_histories`.
+#![tactic(auto)]
+
+ghost use Rattle.std.specs.Prelude.{◌≡◌, ℕ, List, Ok};
+ghost use Rattle.run_record.specs.declared.entry.Entry.{Entry};
+ghost use Rattle.run_record.specs.declared.limits.Limits.{Limits};
+ghost use Rattle.elf_image.specs.File.{image_of};
+ghost use Rattle.run_laws.specs.Moments.{Moment};
+ghost use Rattle.bare_machine.specs.World.{World};
+ghost use Rattle.turn_orders.specs.Lists.{Each};
+ghost use Rattle.turn_orders.specs.Machine.{State};
+ghost use Rattle.turn_orders.specs.LineUp.{Stamped};
+ghost use Rattle.joint_turns.specs.Joint.{Value};
+ghost use Rattle.watched_turns.specs.Turns.{Local, Act};
+ghost use Rattle.race_core.specs.History.{era_now};
+ghost use Rattle.woven_turns.specs.Weave.{LinesUp};
+ghost use Rattle.placed_detector.specs.Standing.{Hand, Held, Standing};
+ghost use Rattle.deed_histories.specs.Deeds.{IsDeed, IsFollowed};
+ghost use Rattle.deed_histories.specs.Lines.{HandDeed, IsHandDeed, StandsStamped, FollowsDeeds};
+
+/// The watched machine makes a deed as one turn, from the state that it has beside what workers and places keep; the entry tells
+/// it; and all stands in the history with the entry.
+pub fn deed_law()
+    ensures { (file : List ℕ) (limits : Limits) (c : State Hand Held) (m : State Local Value) (w : World) (h : List Moment) (t k : ℕ) (hand : Hand) (held : Held) (e : Entry) (acts : List Act) →
+        image_of file ≡ Ok file → Standing file limits c m w h → IsDeed file limits (era_now limits.epochs h) t k (c.local t) hand (c.value k) held e acts →
+        IsFollowed file limits c m h t k hand held e acts }
+{}
+
+/// It follows deeds that line up, as far as each thread by itself and each place by itself can tell.
+pub fn line_law()
+    ensures { (file : List ℕ) (limits : Limits) (c : State (Stamped Hand) (Stamped Held)) (m : State (Stamped Local) (Stamped Value)) (w : World) (h : List Moment) (ds : List HandDeed) →
+        image_of file ≡ Ok file → LinesUp c ds → Each (IsHandDeed file limits (era_now limits.epochs h)) ds → StandsStamped file limits c m w h →
+        FollowsDeeds file limits c m h ds }
+{}
