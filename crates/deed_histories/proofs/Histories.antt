@@ -17,9 +17,12 @@ first_era : (g : ℕ) → era_now g [] ≡ 0
 unfolding labels
 first_era g = refl
 
-first_stamped_stands : (file : List ℕ) (limits : Limits) → AreWatcherLimits limits → StandsStamped file limits (first_stamped_hands file limits) (first_stamped file limits.slots) (start file limits.harts) []
+first_stamped_stands : (file : List ℕ) (limits : Limits) → AreWatcherLimits limits → StandsStamped file limits (first_stamped_hands file limits)
+    (first_stamped file limits.slots) (start file limits.harts) []
 first_stamped_stands file limits ranges = record { standing = first_stands file limits ranges; locals = λ t. refl; values = λ k. refl }
 
-pub from_first : (file : List ℕ) (limits : Limits) (rs : List HandRound) → AreWatcherLimits limits → image_of file ≡ Ok file → AreHandRounds file limits 0 0 0 (first_stamped_hands file limits) rs →
+pub from_first : (file : List ℕ) (limits : Limits) (rs : List HandRound) → AreWatcherLimits limits → image_of file ≡ Ok file →
+    AreHandRounds file limits 0 0 0 (first_stamped_hands file limits) rs →
     FollowsRounds file limits 0 0 0 (first_stamped_hands file limits) (first_stamped file limits.slots) rs
-from_first file limits rs ranges ok all = follows_rounds file limits ok rs (first_stamped_hands file limits) (first_stamped file limits.slots) (start file limits.harts) [] 0 0 0 (first_stamped_stands file limits ranges) (first_era limits.epochs) all
+from_first file limits rs ranges ok all = follows_rounds file limits ok rs (first_stamped_hands file limits) (first_stamped file limits.slots)
+    (start file limits.harts) [] 0 0 0 (first_stamped_stands file limits ranges) (first_era limits.epochs) all

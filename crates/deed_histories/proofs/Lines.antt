@@ -48,13 +48,15 @@ era_entry g h e =
     none q = cc
 
 -- the entry has its thread's number
-tid_of : (file : List ℕ) (limits : Limits) (era t k : ℕ) (found left : Hand) (place_found place_left : Held) (e : Entry) (acts : List Act) → IsDeed file limits era t k found left place_found place_left e acts → e.tid ≡ t
+tid_of : (file : List ℕ) (limits : Limits) (era t k : ℕ) (found left : Hand) (place_found place_left : Held) (e : Entry) (acts : List Act) →
+    IsDeed file limits era t k found left place_found place_left e acts → e.tid ≡ t
 tid_of file limits era t k found left pf pl e _ (Takes label at tk tn) = tn.thread
 tid_of file limits era t k found left pf pl e _ (Leaves label at lv same tn) = tn.thread
 tid_of file limits era t k found left pf pl e _ (Makes xs made tm) = tm.thread
 
 module _ (file : List ℕ) (limits : Limits) (ok : image_of file ≡ Ok file) where
-  abbrev turn : Rattle.turn_orders.specs.Machine.Turn (Stamped Local) (Stamped Value) (List Act) (Stamped (List (List Rattle.watched_turns.specs.Turns.Told)))
+  abbrev turn : Rattle.turn_orders.specs.Machine.Turn (Stamped Local) (Stamped Value) (List Act)
+      (Stamped (List (List Rattle.watched_turns.specs.Turns.Told)))
   turn = stamped_turn file limits
 
   abbrev Hands : Type 0
@@ -70,7 +72,8 @@ module _ (file : List ℕ) (limits : Limits) (ok : image_of file ≡ Ok file) wh
     value = but_map (λ (v : Stamped Held). v.state) c.value d.call.place d.left i;
   }
 
-  plain_next : (m : Watched) (t k : ℕ) (acts : List Act) → plain (next turn m (single t k acts)) ≡ next (many (watched_turn file limits.harts limits.epochs)) (plain m) (single t k acts)
+  plain_next : (m : Watched) (t k : ℕ) (acts : List Act) → plain (next turn m (single t k acts)) ≡ next
+      (many (watched_turn file limits.harts limits.epochs)) (plain m) (single t k acts)
   plain_next m t k acts = λ i. record {
     local = but_map (λ (l : Stamped Local). l.state) m.local t (turn t acts (m.local t) (m.value k)).local i;
     value = but_map (λ (v : Stamped Value). v.state) m.value k (turn t acts (m.local t) (m.value k)).value i;
@@ -81,7 +84,9 @@ module _ (file : List ℕ) (limits : Limits) (ok : image_of file ≡ Ok file) wh
 
   -- ---- one deed
 
-  module _ (c : Hands) (m : Watched) (w : World) (h : List Moment) (s : StandsStamped file limits c m w h) (d : HandDeed) (made : IsHandDeed file limits (era_now limits.epochs h) d) (here : c.local d.call.thread ≡ d.local_found) (there : c.value d.call.place ≡ d.found) where
+  module _ (c : Hands) (m : Watched) (w : World) (h : List Moment) (s : StandsStamped file limits c m w h) (d : HandDeed)
+      (made : IsHandDeed file limits (era_now limits.epochs h) d) (here : c.local d.call.thread ≡ d.local_found)
+      (there : c.value d.call.place ≡ d.found) where
     abbrev t : ℕ
     t = d.call.thread
 
@@ -91,10 +96,14 @@ module _ (file : List ℕ) (limits : Limits) (ok : image_of file ≡ Ok file) wh
     abbrev it : Deed (Stamped Local) (Stamped Value) (List Act) (Stamped (List (List Rattle.watched_turns.specs.Turns.Told)))
     it = deed_of turn m (call_of turn acts_of d)
 
-    deed_here : IsDeed file limits (era_now limits.epochs h) t k ((plain c).local t) d.local_left.state ((plain c).value k) d.left.state d.told.entry d.told.acts
+    deed_here : IsDeed file limits (era_now limits.epochs h) t k ((plain c).local t) d.local_left.state
+        ((plain c).value k) d.left.state d.told.entry d.told.acts
     deed_here =
-        subst (λ (l : Hand). IsDeed file limits (era_now limits.epochs h) t k l d.local_left.state (c.value k).state d.left.state d.told.entry d.told.acts) (ap (λ (l : Stamped Hand). l.state) (sym here))
-        (subst (λ (v : Held). IsDeed file limits (era_now limits.epochs h) t k d.local_found.state d.local_left.state v d.left.state d.told.entry d.told.acts) (ap (λ (v : Stamped Held). v.state) (sym there)) made.deed)
+        subst (λ (l : Hand). IsDeed file limits (era_now limits.epochs h) t k l d.local_left.state
+        (c.value k).state d.left.state d.told.entry d.told.acts) (ap (λ (l : Stamped Hand). l.state) (sym here))
+        (subst (λ (v : Held). IsDeed file limits
+        (era_now limits.epochs h) t k d.local_found.state d.local_left.state v d.left.state d.told.entry d.told.acts)
+        (ap (λ (v : Stamped Held). v.state) (sym there)) made.deed)
 
     one : IsFollowed file limits (plain c) (plain m) h t k d.local_left.state d.left.state d.told.entry d.told.acts
     one = followed file limits ok (plain c) (plain m) w h s.standing t d.local_left.state d.left.state d.told.entry k d.told.acts deed_here
@@ -107,7 +116,8 @@ module _ (file : List ℕ) (limits : Limits) (ok : image_of file ≡ Ok file) wh
 
     entry_of : IsEntryOf file limits.harts limits.epochs it d.told.entry
     entry_of = record {
-      thread = sym (tid_of file limits (era_now limits.epochs h) t k ((plain c).local t) d.local_left.state ((plain c).value k) d.left.state d.told.entry d.told.acts deed_here);
+      thread = sym (tid_of file limits (era_now limits.epochs h) t k ((plain c).local t) d.local_left.state
+          ((plain c).value k) d.left.state d.told.entry d.told.acts deed_here);
       stamp = stamp_is ∙ sym made.entry_stamp;
       makes = one.makes;
       placed = one.placed;
@@ -119,27 +129,34 @@ module _ (file : List ℕ) (limits : Limits) (ok : image_of file ≡ Ok file) wh
     locals_then u = go (dec u t)
       where
         go : (u ≡ t) ⊎ (u ≢ t) → ((next turn m (single t k d.told.acts)).local u).last ≡ ((left_by c d).local u).last
-        go (inl q) = ap (λ (l : Stamped Local). l.last) (but_here m.local t u (turn t d.told.acts (m.local t) (m.value k)).local q) ∙ (stamp_is ∙ ap (λ (l : Stamped Hand). l.last) (sym (but_here c.local t u d.local_left q)))
-        go (inr ne) = ap (λ (l : Stamped Local). l.last) (but_else m.local t u (turn t d.told.acts (m.local t) (m.value k)).local ne) ∙ (s.locals u ∙ ap (λ (l : Stamped Hand). l.last) (sym (but_else c.local t u d.local_left ne)))
+        go (inl q) = ap (λ (l : Stamped Local). l.last) (but_here m.local t u (turn t d.told.acts (m.local t) (m.value k)).local q) ∙
+            (stamp_is ∙ ap (λ (l : Stamped Hand). l.last) (sym (but_here c.local t u d.local_left q)))
+        go (inr ne) = ap (λ (l : Stamped Local). l.last) (but_else m.local t u (turn t d.told.acts (m.local t) (m.value k)).local ne) ∙
+            (s.locals u ∙ ap (λ (l : Stamped Hand). l.last) (sym (but_else c.local t u d.local_left ne)))
 
     values_then : (j : ℕ) → ((next turn m (single t k d.told.acts)).value j).last ≡ ((left_by c d).value j).last
     values_then j = go (dec j k)
       where
         go : (j ≡ k) ⊎ (j ≢ k) → ((next turn m (single t k d.told.acts)).value j).last ≡ ((left_by c d).value j).last
-        go (inl q) = ap (λ (v : Stamped Value). v.last) (but_here m.value k j (turn t d.told.acts (m.local t) (m.value k)).value q) ∙ (stamp_is ∙ (sym made.left_there ∙ ap (λ (v : Stamped Held). v.last) (sym (but_here c.value k j d.left q))))
-        go (inr ne) = ap (λ (v : Stamped Value). v.last) (but_else m.value k j (turn t d.told.acts (m.local t) (m.value k)).value ne) ∙ (s.values j ∙ ap (λ (v : Stamped Held). v.last) (sym (but_else c.value k j d.left ne)))
+        go (inl q) = ap (λ (v : Stamped Value). v.last) (but_here m.value k j (turn t d.told.acts (m.local t) (m.value k)).value q) ∙
+            (stamp_is ∙ (sym made.left_there ∙ ap (λ (v : Stamped Held). v.last) (sym (but_here c.value k j d.left q))))
+        go (inr ne) = ap (λ (v : Stamped Value). v.last) (but_else m.value k j (turn t d.told.acts (m.local t) (m.value k)).value ne) ∙
+            (s.values j ∙ ap (λ (v : Stamped Held). v.last) (sym (but_else c.value k j d.left ne)))
 
     stands_next : StandsStamped file limits (left_by c d) (next turn m (single t k d.told.acts)) one.world (h ++ entry_moments 0 d.told.entry)
     stands_next = record {
-      standing = subst (λ (z : State Hand Held). Standing file limits z (plain (next turn m (single t k d.told.acts))) one.world (h ++ entry_moments 0 d.told.entry)) (sym (plain_left c d))
-          (subst (λ (z : State Local Value). Standing file limits (left_with (plain c) t k d.local_left.state d.left.state) z one.world (h ++ entry_moments 0 d.told.entry)) (sym (plain_next m t k d.told.acts)) one.stands);
+      standing = subst (λ (z : State Hand Held). Standing file limits z (plain (next turn m (single t k d.told.acts))) one.world
+          (h ++ entry_moments 0 d.told.entry)) (sym (plain_left c d))
+          (subst (λ (z : State Local Value). Standing file limits (left_with (plain c) t k d.local_left.state d.left.state) z one.world
+          (h ++ entry_moments 0 d.told.entry)) (sym (plain_next m t k d.told.acts)) one.stands);
       locals = locals_then;
       values = values_then;
     }
 
   -- ---- all of a line
 
-  pub follows_deeds : (ds : List HandDeed) (c : Hands) (m : Watched) (w : World) (h : List Moment) → LinesUp c ds → Each (IsHandDeed file limits (era_now limits.epochs h)) ds → StandsStamped file limits c m w h → FollowsDeeds file limits c m h ds
+  pub follows_deeds : (ds : List HandDeed) (c : Hands) (m : Watched) (w : World) (h : List Moment) → LinesUp c ds → Each
+      (IsHandDeed file limits (era_now limits.epochs h)) ds → StandsStamped file limits c m w h → FollowsDeeds file limits c m h ds
   follows_deeds [] c m w h line made s = record {
     line = record { turns = tt; locals = λ t. tt; values = λ k. tt };
     told = tt;
@@ -151,11 +168,13 @@ module _ (file : List ℕ) (limits : Limits) (ok : image_of file ≡ Ok file) wh
       let there = found_value c d ds line in
       let it : Call (List Act) = call_of turn acts_of d in
       let era = era_entry limits.epochs h d.told.entry in
-      let rest = follows_deeds ds (left_by c d) (next turn m it) (one c m w h s d made.0 here there).world (h ++ entry_moments 0 d.told.entry) (rest_lines c d ds line)
+      let rest = follows_deeds ds (left_by c d) (next turn m it) (one c m w h s d made.0 here there).world (h ++ entry_moments 0 d.told.entry)
+      (rest_lines c d ds line)
       (subst (λ (n : ℕ). Each (IsHandDeed file limits n) ds) (sym era) made.1) (stands_next c m w h s d made.0 here there) in
       record {
         line = first_line turn m it (deeds_of turn acts_of (next turn m it) ds) rest.line;
         told = (entry_of c m w h s d made.0 here there, rest.told);
         world = rest.world;
-        stands = subst (StandsStamped file limits (left_after c (d ∷ ds)) (after turn m (calls (deeds_of turn acts_of m (d ∷ ds)))) rest.world) (append_assoc h (entry_moments 0 d.told.entry) (moments_of (entries_of ds))) rest.stands;
+        stands = subst (StandsStamped file limits (left_after c (d ∷ ds)) (after turn m (calls (deeds_of turn acts_of m (d ∷ ds)))) rest.world)
+            (append_assoc h (entry_moments 0 d.told.entry) (moments_of (entries_of ds))) rest.stands;
       }

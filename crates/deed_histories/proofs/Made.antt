@@ -37,7 +37,8 @@ zip_told h (m ∷ ms) (x ∷ xs) l s =
     let whole : h ++ m ∷ ms ≡ (h ++ m ∷ []) ++ ms = sym (append_assoc h (m ∷ []) ms) in
     let n : suc (length h) ≡ length (h ++ m ∷ []) = omega (arith, length-append h (m ∷ [])) in (
       record { item = ap (λ (y : Moment). y.item) (sym at) ∙ s.0.item; checks = ap (λ (y : Moment). map checked_of y.checks) (sym at) ∙ s.0.checks },
-      zip_told (h ++ m ∷ []) ms xs (let q = l in omega arith) (subst (λ (j : ℕ). StandFrom ((h ++ m ∷ []) ++ ms) j xs) n (subst (λ (y : List Moment). StandFrom y (suc (length h)) xs) whole s.1)),
+      zip_told (h ++ m ∷ []) ms xs (let q = l in omega arith) (subst (λ (j : ℕ). StandFrom ((h ++ m ∷ []) ++ ms) j xs) n
+          (subst (λ (y : List Moment). StandFrom y (suc (length h)) xs) whole s.1)),
     )
 
 pub zip_append : {A B : Type 0} (R : A → B → Type 0) (xs ys : List A) (us vs : List B) → AllZip R xs us → AllZip R ys vs → AllZip R (xs ++ ys) (us ++ vs)
@@ -54,7 +55,8 @@ pub record Cut (t : ℕ) (ms : List Moment) (es fs : List Event) (css dss : List
   pub heard : AreHeard t first es css
   pub later : AreHeard t rest fs dss
 
-pub cut_heard : (t : ℕ) (ms : List Moment) (es fs : List Event) (css dss : List (List Check)) → length es ≡ length css → AreHeard t ms (es ++ fs) (css ++ dss) → Cut t ms es fs css dss
+pub cut_heard : (t : ℕ) (ms : List Moment) (es fs : List Event) (css dss : List (List Check)) → length es ≡ length css → AreHeard t ms (es ++ fs)
+    (css ++ dss) → Cut t ms es fs css dss
 cut_heard t ms [] fs [] dss l are = record { first = []; rest = ms; whole = refl; heard = tt; later = are }
 cut_heard t ms [] fs (cs ∷ css) dss l are = absurd (cc)
 cut_heard t ms (e ∷ es) fs [] dss l are = absurd (cc)
@@ -64,7 +66,9 @@ cut_heard t (m ∷ ms) (e ∷ es) fs (cs ∷ css) dss l are =
     record { first = m ∷ c.first; rest = c.rest; whole = ap (λ (xs : List Moment). m ∷ xs) c.whole; heard = (are.0, c.heard); later = c.later }
 
 -- each event was heard with its checks
-heard_as_many : (file : List ℕ) (k t : ℕ) (loads : Loads) (i : ℕ) (es : List Event) (css : List (List Check)) (b c : Rattle.placed_detector.specs.Instructions.Beside) → Rattle.placed_detector.specs.Instructions.HearsEvents file k t loads i es css b c → length es ≡ length css
+heard_as_many : (file : List ℕ) (k t : ℕ) (loads : Loads) (i : ℕ) (es : List Event) (css : List (List Check))
+    (b c : Rattle.placed_detector.specs.Instructions.Beside) → Rattle.placed_detector.specs.Instructions.HearsEvents file k t loads i es css b c →
+    length es ≡ length css
 heard_as_many file k t loads i [] [] b c h = refl
 heard_as_many file k t loads i (e ∷ es) (cs ∷ css) b c h = ap suc (heard_as_many file k t loads (i + 1) es css h.0 c h.5)
 heard_as_many file k t loads i [] (cs ∷ css) b c h = absurd h
@@ -73,7 +77,8 @@ heard_as_many file k t loads i (e ∷ es) [] b c h = absurd h
 long_append : {X : Type 0} (xs ys : List X) → length (xs ++ ys) ≡ length xs + length ys
 long_append xs ys = length-append xs ys
 
-pub made_as_many : (file : List ℕ) (limits : Limits) (t k era : ℕ) (xs : List Made) (found left : Hand) (place_found place_left : Held) → AreMade file limits.harts era t k xs found left place_found place_left → length (all_events xs) ≡ length (all_checks xs)
+pub made_as_many : (file : List ℕ) (limits : Limits) (t k era : ℕ) (xs : List Made) (found left : Hand) (place_found place_left : Held) →
+    AreMade file limits.harts era t k xs found left place_found place_left → length (all_events xs) ≡ length (all_checks xs)
 made_as_many file limits t k era [] found left pf pl made = absurd made
 made_as_many file limits t k era (x ∷ []) found left pf pl made =
     let one = heard_as_many file k t x.loads 0 x.events x.checks _ _ made.0.heard in
@@ -95,9 +100,11 @@ abbrev pub loads_of : List Made → List Loads
 loads_of xs = map (λ (x : Made). x.loads) xs
 
 -- what instructions come to
-pub record MadeAll (file : List ℕ) (limits : Limits) (c : State Hand Held) (m : State Local Value) (h ms : List Moment) (t k : ℕ) (xs : List Made) (hand : Hand) (held : Held) : Type 0 where
+pub record MadeAll (file : List ℕ) (limits : Limits) (c : State Hand Held) (m : State Local Value) (h ms : List Moment) (t k : ℕ) (xs : List Made)
+    (hand : Hand) (held : Held) : Type 0 where
   pub world : World
-  pub stands : Standing file limits (left_with c t k hand held) (after (watched_turn file limits.harts limits.epochs) m (singles t k (acts_of xs))) world (h ++ ms)
+  pub stands : Standing file limits (left_with c t k hand held) (after (watched_turn file limits.harts limits.epochs) m (singles t k (acts_of xs))) world
+      (h ++ ms)
   pub makes : MakesSteps file limits.harts limits.epochs (m.local t) (m.value k) t k (loads_of xs)
   pub were_placed : WerePlaced file limits.harts limits.epochs (m.local t) (m.value k) t k (acts_of xs)
   pub told : AllZip IsTold ms (all_of (tells (watched_turn file limits.harts limits.epochs) m (singles t k (acts_of xs))))
@@ -113,8 +120,10 @@ module _ (file : List ℕ) (limits : Limits) (ok : image_of file ≡ Ok file) (t
     is_placed : IsPlaced file limits.harts limits.epochs (m.local t) (m.value k) t k (steps loads)
     told : AllZip IsTold ms (turn t (steps loads) (m.local t) (m.value k)).told
 
-  one_made : (c : State Hand Held) (m : State Local Value) (w : World) (h ms : List Moment) (loads : Loads) (es : List Event) (css : List (List Check)) (hand : Hand) (held : Held) → Standing file limits c m w h →
-      MakesInstruction file limits.harts (era_now limits.epochs h) t k loads es css (c.local t) hand (c.value k) held → AreHeard t ms es css → One c m w h ms loads hand held
+  one_made : (c : State Hand Held) (m : State Local Value) (w : World) (h ms : List Moment) (loads : Loads) (es : List Event) (css : List (List Check))
+      (hand : Hand) (held : Held) → Standing file limits c m w h →
+      MakesInstruction file limits.harts (era_now limits.epochs h) t k loads es css (c.local t) hand (c.value k) held → AreHeard t ms es css →
+      One c m w h ms loads hand held
   one_made c m w h ms loads es css hand held s mk are = record {
     world = along.world_after file w t joint.steps;
     stands = instruction_stands file limits ok c m w h s t k loads hand held es css ms mk are;
@@ -124,7 +133,8 @@ module _ (file : List ℕ) (limits : Limits) (ok : image_of file ≡ Ok file) (t
         (stand file limits ok c m w h s t k loads hand held es css ms mk are);
   }
 
-  alive_there : (c : State Hand Held) (m : State Local Value) (w : World) (h : List Moment) → Standing file limits c m w h → IsAlive (c.local t).bare → IsAlive (m.local t).joint.bare
+  alive_there : (c : State Hand Held) (m : State Local Value) (w : World) (h : List Moment) → Standing file limits c m w h → IsAlive (c.local t).bare →
+      IsAlive (m.local t).joint.bare
   alive_there c m w h s a = subst IsAlive (sym (s.locals t)) a
 
   -- the state in which the next one is made
@@ -141,7 +151,8 @@ module _ (file : List ℕ) (limits : Limits) (ok : image_of file ≡ Ok file) (t
   next_value m a = but_here m.value k k (turn t a (m.local t) (m.value k)).value refl
 
   -- an era doesn't begin among the events of instructions
-  era_after_heard : (h : List Moment) (ms : List Moment) (es : List Event) (css : List (List Check)) → AreHeard t ms es css → era_now limits.epochs (h ++ ms) ≡ era_now limits.epochs h
+  era_after_heard : (h : List Moment) (ms : List Moment) (es : List Event) (css : List (List Check)) → AreHeard t ms es css → era_now limits.epochs
+      (h ++ ms) ≡ era_now limits.epochs h
   era_after_heard h [] es css are = ap (era_now limits.epochs) (append-nil h)
   era_after_heard h (m ∷ ms) [] css are = absurd are
   era_after_heard h (m ∷ ms) (e ∷ es) [] are = absurd are
@@ -153,11 +164,14 @@ module _ (file : List ℕ) (limits : Limits) (ok : image_of file ≡ Ok file) (t
       none : Rattle.run_laws.specs.Moments.Does t e ≡ Rattle.run_laws.specs.Moments.NewEra → ⊥
       none q = cc
 
-  pub all_made : (xs : List Made) (c : State Hand Held) (m : State Local Value) (w : World) (h ms : List Moment) (hand : Hand) (held : Held) → Standing file limits c m w h →
-      AreMade file limits.harts (era_now limits.epochs h) t k xs (c.local t) hand (c.value k) held → AreHeard t ms (all_events xs) (all_checks xs) → MadeAll file limits c m h ms t k xs hand held
+  pub all_made : (xs : List Made) (c : State Hand Held) (m : State Local Value) (w : World) (h ms : List Moment) (hand : Hand) (held : Held) →
+      Standing file limits c m w h →
+      AreMade file limits.harts (era_now limits.epochs h) t k xs (c.local t) hand (c.value k) held → AreHeard t ms (all_events xs) (all_checks xs) →
+      MadeAll file limits c m h ms t k xs hand held
   all_made [] c m w h ms hand held s made are = absurd made
   all_made (x ∷ []) c m w h ms hand held s made are =
-      let heard : AreHeard t ms x.events x.checks = subst (λ (es : List Event). AreHeard t ms es x.checks) (append-nil x.events) (subst (AreHeard t ms (x.events ++ [])) (append-nil x.checks) are) in
+      let heard : AreHeard t ms x.events x.checks = subst (λ (es : List Event). AreHeard t ms es x.checks) (append-nil x.events)
+      (subst (AreHeard t ms (x.events ++ [])) (append-nil x.checks) are) in
       let one = one_made c m w h ms x.loads x.events x.checks hand held s made.0 heard in
       record {
         world = one.world;
@@ -168,31 +182,41 @@ module _ (file : List ℕ) (limits : Limits) (ok : image_of file ≡ Ok file) (t
       }
   all_made (x ∷ (y ∷ rest)) c m w h ms hand held s made are =
       let mk = made.2 in
-      let cut = cut_heard t ms x.events (all_events (y ∷ rest)) x.checks (all_checks (y ∷ rest)) (heard_as_many file k t x.loads 0 x.events x.checks _ _ mk.heard) are in
+      let cut = cut_heard t ms x.events (all_events (y ∷ rest)) x.checks (all_checks (y ∷ rest))
+      (heard_as_many file k t x.loads 0 x.events x.checks _ _ mk.heard) are in
       let one = one_made c m w h cut.first x.loads x.events x.checks made.0 made.1 s mk cut.heard in
       let c1 : State Hand Held = left_with c t k made.0 made.1 in
       let m1 : State Local Value = next turn m (single t k (steps x.loads)) in
       let era = era_after_heard h cut.first x.events x.checks cut.heard in
       let left = subst (λ (n : ℕ). AreMade file limits.harts n t k (y ∷ rest) made.0 hand made.1 held) (sym era) made.5 in
-      let from = subst (λ (l : Hand). AreMade file limits.harts (era_now limits.epochs (h ++ cut.first)) t k (y ∷ rest) l hand (c1.value k) held) (sym (here_local c made.0 made.1))
-      (subst (λ (v : Held). AreMade file limits.harts (era_now limits.epochs (h ++ cut.first)) t k (y ∷ rest) made.0 hand v held) (sym (here_value c made.0 made.1)) left) in
+      let from = subst (λ (l : Hand). AreMade file limits.harts (era_now limits.epochs (h ++ cut.first)) t k (y ∷ rest) l hand (c1.value k) held)
+      (sym (here_local c made.0 made.1))
+      (subst (λ (v : Held). AreMade file limits.harts (era_now limits.epochs (h ++ cut.first)) t k (y ∷ rest) made.0 hand v held)
+      (sym (here_value c made.0 made.1)) left) in
       let others = all_made (y ∷ rest) c1 m1 one.world (h ++ cut.first) cut.rest hand held one.stands from cut.later in
       let whole : (h ++ cut.first) ++ cut.rest ≡ h ++ ms = append_assoc h cut.first cut.rest ∙ ap (λ (zs : List Moment). h ++ zs) (sym cut.whole) in
       record {
         world = others.world;
-        stands = subst (λ (zs : List Moment). Standing file limits (left_with c t k hand held) (after turn m1 (singles t k (acts_of (y ∷ rest)))) others.world zs) whole
-            (subst (λ (z : State Hand Held). Standing file limits z (after turn m1 (singles t k (acts_of (y ∷ rest)))) others.world ((h ++ cut.first) ++ cut.rest)) (left_twice c t k made.0 hand made.1 held) others.stands);
+        stands = subst (λ (zs : List Moment). Standing file limits (left_with c t k hand held)
+            (after turn m1 (singles t k (acts_of (y ∷ rest)))) others.world zs) whole
+            (subst (λ (z : State Hand Held). Standing file limits z (after turn m1 (singles t k (acts_of (y ∷ rest)))) others.world
+            ((h ++ cut.first) ++ cut.rest)) (left_twice c t k made.0 hand made.1 held) others.stands);
         makes = (
           alive_there c m w h s made.3,
           ap (λ (l : machine.Local). next_object file t l.thread) (s.locals t) ∙ made.4,
-          subst (λ (l : Local). MakesSteps file limits.harts limits.epochs l (turn t (steps x.loads) (m.local t) (m.value k)).value t k (loads_of (y ∷ rest))) (next_local m (steps x.loads))
-              (subst (λ (v : Value). MakesSteps file limits.harts limits.epochs (m1.local t) v t k (loads_of (y ∷ rest))) (next_value m (steps x.loads)) others.makes),
+          subst (λ (l : Local). MakesSteps file limits.harts limits.epochs l (turn t (steps x.loads) (m.local t) (m.value k)).value t k
+              (loads_of (y ∷ rest))) (next_local m (steps x.loads))
+              (subst (λ (v : Value). MakesSteps file limits.harts limits.epochs (m1.local t) v t k (loads_of (y ∷ rest)))
+              (next_value m (steps x.loads)) others.makes),
         );
         were_placed = (
           one.is_placed,
-          subst (λ (l : Local). WerePlaced file limits.harts limits.epochs l (turn t (steps x.loads) (m.local t) (m.value k)).value t k (acts_of (y ∷ rest))) (next_local m (steps x.loads))
-              (subst (λ (v : Value). WerePlaced file limits.harts limits.epochs (m1.local t) v t k (acts_of (y ∷ rest))) (next_value m (steps x.loads)) others.were_placed),
+          subst (λ (l : Local). WerePlaced file limits.harts limits.epochs l (turn t (steps x.loads) (m.local t) (m.value k)).value t k
+              (acts_of (y ∷ rest))) (next_local m (steps x.loads))
+              (subst (λ (v : Value). WerePlaced file limits.harts limits.epochs (m1.local t) v t k (acts_of (y ∷ rest)))
+              (next_value m (steps x.loads)) others.were_placed),
         );
         told = subst (λ (zs : List Moment). AllZip IsTold zs (all_of (tells turn m (singles t k (acts_of (x ∷ (y ∷ rest))))))) (sym cut.whole)
-            (zip_append IsTold cut.first cut.rest (turn t (steps x.loads) (m.local t) (m.value k)).told (all_of (tells turn m1 (singles t k (acts_of (y ∷ rest))))) one.told others.told);
+            (zip_append IsTold cut.first cut.rest (turn t (steps x.loads) (m.local t) (m.value k)).told
+            (all_of (tells turn m1 (singles t k (acts_of (y ∷ rest))))) one.told others.told);
       }

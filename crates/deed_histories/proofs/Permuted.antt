@@ -31,7 +31,8 @@ paired {X} {Y} R (x ∷ xs) (y ∷ ys) z =
       each = (z.0, rest.each);
     }
 
-pub unpaired : {X Y : Type 0} (R : X → Y → Type 0) (ps : List (X × Y)) → Each (λ (p : X × Y). R p.0 p.1) ps → AllZip R (map (λ (p : X × Y). p.0) ps) (map (λ (p : X × Y). p.1) ps)
+pub unpaired : {X Y : Type 0} (R : X → Y → Type 0) (ps : List (X × Y)) → Each (λ (p : X × Y). R p.0 p.1) ps → AllZip R (map (λ (p : X × Y). p.0) ps)
+    (map (λ (p : X × Y). p.1) ps)
 unpaired R [] e = tt
 unpaired R (p ∷ ps) e = (e.0, unpaired R ps e.1)
 
@@ -42,7 +43,8 @@ module _ {X Y : Type 0} (f : X → Y) where
   map_swap [] i j = refl
   map_swap (d ∷ ys) i j =
       map-set f (set (d ∷ ys) i (get_or (d ∷ ys) j d)) j (get_or (d ∷ ys) i d)
-      ∙ (λ k. set ((map-set f (d ∷ ys) i (get_or (d ∷ ys) j d) ∙ ap (set (map f (d ∷ ys)) i) (sym (get_or-map f (d ∷ ys) j d))) k) j (sym (get_or-map f (d ∷ ys) i d) k))
+      ∙ (λ k. set ((map-set f (d ∷ ys) i (get_or (d ∷ ys) j d) ∙ ap (set (map f (d ∷ ys)) i) (sym (get_or-map f (d ∷ ys) j d))) k) j
+      (sym (get_or-map f (d ∷ ys) i d) k))
 
   map_swaps : (xs : List X) (ps : List (ℕ × ℕ)) → map f (apply_swaps xs ps) ≡ apply_swaps (map f xs) ps
   map_swaps xs [] = refl
@@ -60,15 +62,18 @@ moved {X} {Y} R xs ys zs z p =
     let fst : X × Y → X = λ q. q.0 in
     let snd : X × Y → Y = λ q. q.1 in
     let long : length ys ≡ length pairs.pairs = ap (λ (l : List Y). length l) (sym pairs.seconds) ∙ length-map pairs.pairs snd in
-    let perm : IsPermutation pairs.pairs (apply_swaps pairs.pairs p.moves) = record { moves = p.moves; below = subst (λ (n : ℕ). SwapsInRange n p.moves) long p.below; is = refl } in
+    let perm : IsPermutation pairs.pairs (apply_swaps pairs.pairs p.moves) = record
+    { moves = p.moves; below = subst (λ (n : ℕ). SwapsInRange n p.moves) long p.below; is = refl } in
     let members = same_members pairs.pairs (apply_swaps pairs.pairs p.moves) perm in
-    let each = all_members (λ (q : X × Y). R q.0 q.1) (apply_swaps pairs.pairs p.moves) (λ q i. at_member (λ (r : X × Y). R r.0 r.1) q pairs.pairs pairs.each ((members q).1 i)) in
+    let each = all_members (λ (q : X × Y). R q.0 q.1) (apply_swaps pairs.pairs p.moves)
+    (λ q i. at_member (λ (r : X × Y). R r.0 r.1) q pairs.pairs pairs.each ((members q).1 i)) in
     let firsts : IsPermutation xs (map fst (apply_swaps pairs.pairs p.moves)) = record {
       moves = p.moves;
       below = subst (λ (n : ℕ). SwapsInRange n p.moves) (long ∙ (sym (length-map pairs.pairs fst) ∙ ap (λ (l : List X). length l) pairs.firsts)) p.below;
       is = map_swaps fst pairs.pairs p.moves ∙ ap (λ (l : List X). apply_swaps l p.moves) pairs.firsts;
     } in
-    let seconds : map snd (apply_swaps pairs.pairs p.moves) ≡ zs = map_swaps snd pairs.pairs p.moves ∙ (ap (λ (l : List Y). apply_swaps l p.moves) pairs.seconds ∙ sym p.is) in
+    let seconds : map snd (apply_swaps pairs.pairs p.moves) ≡ zs = map_swaps snd pairs.pairs p.moves ∙
+    (ap (λ (l : List Y). apply_swaps l p.moves) pairs.seconds ∙ sym p.is) in
     record {
       list = map fst (apply_swaps pairs.pairs p.moves);
       same = same_members xs (map fst (apply_swaps pairs.pairs p.moves)) firsts;

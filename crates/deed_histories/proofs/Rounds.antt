@@ -45,7 +45,8 @@ pub record Goes (file : List ℕ) (limits : Limits) (x : StampedDeed) (d : HandD
   pub thread : x.call.thread ≡ d.call.thread
   pub stamp : x.local_left.last ≡ d.local_left.last
 
-goes_all : (file : List ℕ) (limits : Limits) (era : ℕ) (ds : List HandDeed) (m : State (Stamped Local) (Stamped Value)) → AllZip (IsEntryOf file limits.harts limits.epochs) (deeds_of (stamped_turn file limits) acts_of m ds) (entries_of ds) → Each (IsHandDeed file limits era) ds →
+goes_all : (file : List ℕ) (limits : Limits) (era : ℕ) (ds : List HandDeed) (m : State (Stamped Local) (Stamped Value)) → AllZip
+    (IsEntryOf file limits.harts limits.epochs) (deeds_of (stamped_turn file limits) acts_of m ds) (entries_of ds) → Each (IsHandDeed file limits era) ds →
     AllZip (Goes file limits) (deeds_of (stamped_turn file limits) acts_of m ds) ds
 goes_all file limits era [] m z made = tt
 goes_all file limits era (d ∷ ds) m z made = (
@@ -54,7 +55,8 @@ goes_all file limits era (d ∷ ds) m z made = (
 )
 
 module _ (file : List ℕ) (limits : Limits) where
-  entries_go : (xs : List StampedDeed) (ds : List HandDeed) → AllZip (Goes file limits) xs ds → AllZip (IsEntryOf file limits.harts limits.epochs) xs (entries_of ds)
+  entries_go : (xs : List StampedDeed) (ds : List HandDeed) → AllZip (Goes file limits) xs ds → AllZip (IsEntryOf file limits.harts limits.epochs) xs
+      (entries_of ds)
   entries_go [] [] z = tt
   entries_go [] (d ∷ ds) z = absurd z
   entries_go (x ∷ xs) [] z = absurd z
@@ -62,9 +64,14 @@ module _ (file : List ℕ) (limits : Limits) where
 
   before_go : (x y : StampedDeed) (d e : HandDeed) → Goes file limits x d → Goes file limits y e → Before hand_stamp d e → Before watched_stamp x y
   before_go x y d e a b (inl l) = inl (subst (λ (n : ℕ). n < y.local_left.last) (sym a.stamp) (subst (λ (n : ℕ). d.local_left.last < n) (sym b.stamp) l))
-  before_go x y d e a b (inr q) = inr (a.stamp ∙ (q.0 ∙ sym b.stamp), subst (λ (n : ℕ). n < y.call.thread) (sym a.thread) (subst (λ (n : ℕ). d.call.thread < n) (sym b.thread) q.1))
+  before_go x y d e a b (inr q) = inr (
+    a.stamp ∙ (q.0 ∙ sym b.stamp),
+    subst (λ (n : ℕ). n < y.call.thread) (sym a.thread)
+        (subst (λ (n : ℕ). d.call.thread < n) (sym b.thread) q.1),
+  )
 
-  each_go : (x : StampedDeed) (d : HandDeed) (ys : List StampedDeed) (es : List HandDeed) → Goes file limits x d → AllZip (Goes file limits) ys es → Each (Before hand_stamp d) es → Each (Before watched_stamp x) ys
+  each_go : (x : StampedDeed) (d : HandDeed) (ys : List StampedDeed) (es : List HandDeed) → Goes file limits x d → AllZip (Goes file limits) ys es → Each
+      (Before hand_stamp d) es → Each (Before watched_stamp x) ys
   each_go x d [] [] a z e = tt
   each_go x d [] (v ∷ es) a z e = absurd z
   each_go x d (y ∷ ys) [] a z e = absurd z
@@ -91,7 +98,8 @@ module _ (file : List ℕ) (limits : Limits) where
 -- no era begins within entries
 era_entries : (g : ℕ) (h : List Moment) (es : List Entry) → era_now g (h ++ moments_of es) ≡ era_now g h
 era_entries g h [] = ap (era_now g) (append-nil h)
-era_entries g h (e ∷ es) = ap (era_now g) (sym (append_assoc h (entry_moments 0 e) (moments_of es))) ∙ (era_entries g (h ++ entry_moments 0 e) es ∙ era_entry g h e)
+era_entries g h (e ∷ es) = ap (era_now g) (sym (append_assoc h (entry_moments 0 e) (moments_of es))) ∙
+    (era_entries g (h ++ entry_moments 0 e) es ∙ era_entry g h e)
 
 abbrev pub era_moment : Moment
 era_moment = record { entry = 0; round = 0; item = NewEra; checks = [] }
@@ -114,7 +122,8 @@ module _ (file : List ℕ) (limits : Limits) (ok : image_of file ≡ Ok file) wh
     stands : StandsStamped file limits (between stamp ends c) (watched.between limits.slots stamp ends m) world history
     era_is : era_now limits.epochs history ≡ cond ends (era + 1) era
 
-  between_stands : (c : Hands) (m : Watched) (w : World) (h : List Moment) (stamp era : ℕ) (ends : Bool) → StandsStamped file limits c m w h → era_now limits.epochs h ≡ era → (ends ≡ true → (t : ℕ) → (c.local t).state.given ≡ None) → Between c m stamp era ends
+  between_stands : (c : Hands) (m : Watched) (w : World) (h : List Moment) (stamp era : ℕ) (ends : Bool) → StandsStamped file limits c m w h →
+      era_now limits.epochs h ≡ era → (ends ≡ true → (t : ℕ) → (c.local t).state.given ≡ None) → Between c m stamp era ends
   between_stands c m w h stamp era false s is none = record {
     world = w;
     history = h;
@@ -124,13 +133,19 @@ module _ (file : List ℕ) (limits : Limits) (ok : image_of file ≡ Ok file) wh
   between_stands c m w h stamp era true s is none = record {
     world = w;
     history = h ++ era_moment ∷ [];
-    stands = record { standing = era_standing file limits (plain c) (plain m) w h era_moment s.standing refl (none refl); locals = λ t. refl; values = s.values };
+    stands = record {
+      standing = era_standing file limits (plain c) (plain m) w h era_moment s.standing refl
+          (none refl);
+      locals = λ t. refl;
+      values = s.values;
+    };
     era_is = ap (λ (l : Labels). l.era) (labels_now-push limits.epochs h era_moment) ∙ ap (λ (n : ℕ). n + 1) is;
   }
 
   -- ---- one round
 
-  module _ (c : Hands) (m : Watched) (w : World) (h : List Moment) (round era : ℕ) (r : HandRound) (s : StandsStamped file limits c m w h) (is : era_now limits.epochs h ≡ era) (hr : IsHandRound file limits round era c r) where
+  module _ (c : Hands) (m : Watched) (w : World) (h : List Moment) (round era : ℕ) (r : HandRound) (s : StandsStamped file limits c m w h)
+      (is : era_now limits.epochs h ≡ era) (hr : IsHandRound file limits round era c r) where
     f : FollowsDeeds file limits c m h r.made
     f = follows_deeds file limits ok r.made c m w h hr.line (subst (λ (n : ℕ). Each (IsHandDeed file limits n) r.made) (sym is) hr.deeds) s
 
@@ -149,7 +164,8 @@ module _ (file : List ℕ) (limits : Limits) (ok : image_of file ≡ Ok file) wh
     of : IsRoundOf file limits.harts limits.epochs round era it (entries_of r.listed)
     after_it : Between (left_after c r.made) (after turn m (calls it.made)) (top r) era r.ends
 
-  one_round : (c : Hands) (m : Watched) (w : World) (h : List Moment) (round era : ℕ) (r : HandRound) → StandsStamped file limits c m w h → era_now limits.epochs h ≡ era → IsHandRound file limits round era c r → OneRound c m round era r
+  one_round : (c : Hands) (m : Watched) (w : World) (h : List Moment) (round era : ℕ) (r : HandRound) → StandsStamped file limits c m w h →
+      era_now limits.epochs h ≡ era → IsHandRound file limits round era c r → OneRound c m round era r
   one_round c m w h round era r s is hr =
       let fd = f c m w h round era r s is hr in
       let l = listing c m w h round era r s is hr in
@@ -165,21 +181,26 @@ module _ (file : List ℕ) (limits : Limits) (ok : image_of file ≡ Ok file) wh
         };
         top_is = ap (max r.base) (greatest_go file limits l.list r.listed l.goes);
         of = record { entries = entries_go file limits l.list r.listed l.goes; inside = hr.inside; parts = parts_go file limits l.list r.listed l.goes hr.parts };
-        after_it = between_stands (left_after c r.made) (after turn m (calls (deeds_of turn acts_of m r.made))) fd.world (h ++ moments_of (entries_of r.made)) (top r) era r.ends fd.stands
+        after_it = between_stands (left_after c r.made) (after turn m (calls (deeds_of turn acts_of m r.made))) fd.world
+            (h ++ moments_of (entries_of r.made)) (top r) era r.ends fd.stands
             (era_entries limits.epochs h (entries_of r.made) ∙ is) hr.begun;
       }
 
   -- ---- all rounds
 
-  pub follows_rounds : (rs : List HandRound) (c : Hands) (m : Watched) (w : World) (h : List Moment) (round era base : ℕ) → StandsStamped file limits c m w h → era_now limits.epochs h ≡ era → AreHandRounds file limits round era base c rs → FollowsRounds file limits round era base c m rs
+  pub follows_rounds : (rs : List HandRound) (c : Hands) (m : Watched) (w : World) (h : List Moment) (round era base : ℕ) →
+      StandsStamped file limits c m w h → era_now limits.epochs h ≡ era → AreHandRounds file limits round era base c rs →
+      FollowsRounds file limits round era base c m rs
   follows_rounds [] c m w h round era base s is all = record { rounds = []; follow = tt; told = tt; world = w; history = h; stands = s }
   follows_rounds (r ∷ rs) c m w h round era base s is all =
       let one = one_round c m w h round era r s is all.1 in
       let next_m : Watched = made_end turn (watched.between limits.slots) watched_stamp place_stamp m one.it in
       let same : watched.between limits.slots (top r) r.ends (after turn m (calls one.it.made)) ≡ next_m =
       ap₂ (λ (n : ℕ) (b : Bool). watched.between limits.slots n b (after turn m (calls one.it.made))) (sym one.top_is) (sym one.ends_is) in
-      let stands = subst (λ (z : Watched). StandsStamped file limits (hands_after c r) z one.after_it.world one.after_it.history) same one.after_it.stands in
-      let others = follows_rounds rs (hands_after c r) next_m one.after_it.world one.after_it.history (round + 1) (cond r.ends (era + 1) era) (top r) stands one.after_it.era_is all.2 in
+      let stands = subst (λ (z : Watched). StandsStamped file limits
+      (hands_after c r) z one.after_it.world one.after_it.history) same one.after_it.stands in
+      let others = follows_rounds rs (hands_after c r) next_m one.after_it.world one.after_it.history (round + 1) (cond r.ends (era + 1) era)
+      (top r) stands one.after_it.era_is all.2 in
       record {
         rounds = one.it ∷ others.rounds;
         follow = (
@@ -189,7 +210,8 @@ module _ (file : List ℕ) (limits : Limits) (ok : image_of file ≡ Ok file) wh
         );
         told = (
           one.of,
-          subst (λ (b : Bool). AreRoundsOf file limits.harts limits.epochs (round + 1) (cond b (era + 1) era) others.rounds (listed_entries rs)) (sym one.ends_is) others.told,
+          subst (λ (b : Bool). AreRoundsOf file limits.harts limits.epochs (round + 1) (cond b (era + 1) era) others.rounds (listed_entries rs))
+              (sym one.ends_is) others.told,
         );
         world = others.world;
         history = others.history;

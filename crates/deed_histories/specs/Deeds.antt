@@ -45,7 +45,8 @@ AreMade file harts era t k (x ∷ []) found left place_found place_left =
     MakesInstruction file harts era t k x.loads x.events x.checks found left place_found place_left
     × IsAlive found.bare × IsPlaceOf k t (next_object file t found.bare.thread)
 AreMade file harts era t k (x ∷ (y ∷ rest)) found left place_found place_left =
-    (hand : Hand) × (held : Held) × MakesInstruction file harts era t k x.loads x.events x.checks found hand place_found held
+    (hand : Hand) × (held : Held)
+    × MakesInstruction file harts era t k x.loads x.events x.checks found hand place_found held
     × IsAlive found.bare × (next_object file t found.bare.thread ≡ None)
     × AreMade file harts era t k (y ∷ rest) hand left held place_left
 
@@ -77,18 +78,29 @@ pub record TellsNote (t : ℕ) (note : DeskNote) (e : Entry) : Type 0 where
 
 -- What a worker says of one deed of thread t at place k, in that era: which acts it was, and the entry that tells it. The thread
 -- takes or leaves a slot at the desk, or makes instructions.
-pub data IsDeed (file : List ℕ) (limits : Limits) (era t k : ℕ) (found left : Hand) (place_found place_left : Held) (e : Entry) : List Act → Type 0 where
-  Takes : (label : Label) → k ≡ desk → TakesSlot limits era t label found left place_found place_left → TellsNote t (Attach label) e → IsDeed file limits era t k found left place_found place_left e (attaches ∷ [])
-  Leaves : (label : Label) → k ≡ desk → LeavesSlot era t label found place_found place_left → left ≡ found → TellsNote t (Leave label) e → IsDeed file limits era t k found left place_found place_left e (leaves label ∷ [])
-  Makes : (xs : List Made) → AreMade file limits.harts era t k xs found left place_found place_left → TellsMade t xs e → IsDeed file limits era t k found left place_found place_left e (begins ∷ map (λ (x : Made). steps x.loads) xs)
+pub data IsDeed (file : List ℕ) (limits : Limits) (era t k : ℕ) (found left : Hand)
+    (place_found place_left : Held) (e : Entry) : List Act → Type 0 where
+  Takes : (label : Label) → k ≡ desk → TakesSlot limits era t label found left place_found place_left →
+      TellsNote t (Attach label) e → IsDeed file limits era t k found left place_found place_left e
+      (attaches ∷ [])
+  Leaves : (label : Label) → k ≡ desk → LeavesSlot era t label found place_found place_left → left ≡ found →
+      TellsNote t (Leave label) e → IsDeed file limits era t k found left place_found place_left e
+      (leaves label ∷ [])
+  Makes : (xs : List Made) → AreMade file limits.harts era t k xs found left place_found place_left →
+      TellsMade t xs e → IsDeed file limits era t k found left place_found place_left e
+      (begins ∷ map (λ (x : Made). steps x.loads) xs)
 
 -- ---- what a deed comes to
 
 -- The watched machine makes the acts as one turn, the entry tells it, and all stands in the history with the entry.
-pub record IsFollowed (file : List ℕ) (limits : Limits) (c : State Hand Held) (m : State Local Value) (h : List Moment) (t k : ℕ) (hand : Hand) (held : Held) (e : Entry) (acts : List Act) : Type 0 where
+pub record IsFollowed (file : List ℕ) (limits : Limits) (c : State Hand Held) (m : State Local Value)
+    (h : List Moment) (t k : ℕ) (hand : Hand) (held : Held) (e : Entry) (acts : List Act) : Type 0 where
   pub world : World
-  pub stands : Standing file limits (left_with c t k hand held) (next (many (watched_turn file limits.harts limits.epochs)) m (single t k acts)) world (h ++ entry_moments 0 e)
+  pub stands : Standing file limits (left_with c t k hand held)
+      (next (many (watched_turn file limits.harts limits.epochs)) m (single t k acts)) world
+      (h ++ entry_moments 0 e)
   pub makes : MakesEntry file limits.harts limits.epochs (m.local t) (m.value k) t k acts e.note e.steps
   pub placed : WerePlaced file limits.harts limits.epochs (m.local t) (m.value k) t k acts
-  pub told : AllZip IsTold (entry_moments 0 e) (all_of (many (watched_turn file limits.harts limits.epochs) t acts (m.local t) (m.value k)).told)
+  pub told : AllZip IsTold (entry_moments 0 e) (all_of (many
+      (watched_turn file limits.harts limits.epochs) t acts (m.local t) (m.value k)).told)
   pub grouped : IsGrouped e

@@ -41,18 +41,24 @@ pub record IsHandDeed (file : List ℕ) (limits : Limits) (era : ℕ) (d : HandD
   pub entry_stamp : d.told.entry.stamp ≡ d.local_left.last
 
 -- the turn of the watched machine that draws a stamp
-abbrev pub stamped_turn : List ℕ → Limits → Turn (Stamped Local) (Stamped Value) (List Act) (Stamped (List (List Told)))
+abbrev pub stamped_turn : List ℕ → Limits → Turn (Stamped Local) (Stamped Value) (List Act)
+    (Stamped (List (List Told)))
 stamped_turn file limits = stamped (many (watched_turn file limits.harts limits.epochs))
 
 -- workers and places stand as the history leaves them, and the watched machine has the same, and the same stamps
-pub record StandsStamped (file : List ℕ) (limits : Limits) (c : State (Stamped Hand) (Stamped Held)) (m : State (Stamped Local) (Stamped Value)) (w : World) (h : List Moment) : Type 0 where
+pub record StandsStamped (file : List ℕ) (limits : Limits) (c : State (Stamped Hand) (Stamped Held))
+    (m : State (Stamped Local) (Stamped Value)) (w : World) (h : List Moment) : Type 0 where
   pub standing : Standing file limits (plain c) (plain m) w h
   pub locals : (t : ℕ) → (m.local t).last ≡ (c.local t).last
   pub values : (k : ℕ) → (m.value k).last ≡ (c.value k).last
 
 -- The watched machine follows the deeds: its own line up, the entries tell them, and all stands in the history with the entries.
-pub record FollowsDeeds (file : List ℕ) (limits : Limits) (c : State (Stamped Hand) (Stamped Held)) (m : State (Stamped Local) (Stamped Value)) (h : List Moment) (ds : List HandDeed) : Type 0 where
+pub record FollowsDeeds (file : List ℕ) (limits : Limits) (c : State (Stamped Hand) (Stamped Held))
+    (m : State (Stamped Local) (Stamped Value)) (h : List Moment) (ds : List HandDeed) : Type 0 where
   pub line : IsLineUp (stamped_turn file limits) m (deeds_of (stamped_turn file limits) acts_of m ds)
-  pub told : AllZip (IsEntryOf file limits.harts limits.epochs) (deeds_of (stamped_turn file limits) acts_of m ds) (entries_of ds)
+  pub told : AllZip (IsEntryOf file limits.harts limits.epochs)
+      (deeds_of (stamped_turn file limits) acts_of m ds) (entries_of ds)
   pub world : World
-  pub stands : StandsStamped file limits (left_after c ds) (after (stamped_turn file limits) m (calls (deeds_of (stamped_turn file limits) acts_of m ds))) world (h ++ moments_of (entries_of ds))
+  pub stands : StandsStamped file limits (left_after c ds)
+      (after (stamped_turn file limits) m (calls (deeds_of (stamped_turn file limits) acts_of m ds))) world
+      (h ++ moments_of (entries_of ds))

@@ -39,7 +39,8 @@ top r = max r.base (greatest hand_stamp r.listed)
 abbrev pub PartsEnd : List HandDeed → Type 0
 PartsEnd [] = Unit {0}
 PartsEnd (d ∷ ds) =
-    (0 < d.told.entry.steps → desk < d.call.place → Each (λ (f : Entry). f.tid ≡ d.told.entry.tid → f.steps ≡ 0) (entries_of ds)) × PartsEnd ds
+    (0 < d.told.entry.steps → desk < d.call.place → Each
+    (λ (f : Entry). f.tid ≡ d.told.entry.tid → f.steps ≡ 0) (entries_of ds)) × PartsEnd ds
 
 -- what the round leaves for the next one: each thread has the greatest stamp so far, and an era may begin
 abbrev pub in_next_era : Bool → State Hand Held → State Hand Held
@@ -57,7 +58,8 @@ hands_after c r = between (top r) r.ends (left_after c r.made)
 -- A round from this state on, of that number and era. Each thread has the greatest stamp so far, and no place has a greater one.
 -- The deeds line up as they were made; listed, they are sorted by stamp and then by thread. Where an era begins after the
 -- round, no thread keeps what it was given.
-pub record IsHandRound (file : List ℕ) (limits : Limits) (round era : ℕ) (c : State (Stamped Hand) (Stamped Held)) (r : HandRound) : Type 0 where
+pub record IsHandRound (file : List ℕ) (limits : Limits) (round era : ℕ)
+    (c : State (Stamped Hand) (Stamped Held)) (r : HandRound) : Type 0 where
   pub threads : (t : ℕ) → (c.local t).last ≡ r.base
   pub places : (k : ℕ) → (c.value k).last ≤ r.base
   pub line : LinesUp c r.made
@@ -69,7 +71,8 @@ pub record IsHandRound (file : List ℕ) (limits : Limits) (round era : ℕ) (c 
   pub begun : r.ends ≡ true → (t : ℕ) → ((left_after c r.made).local t).state.given ≡ None
 
 -- rounds one after another
-abbrev pub AreHandRounds : List ℕ → Limits → ℕ → ℕ → ℕ → State (Stamped Hand) (Stamped Held) → List HandRound → Type 0
+abbrev pub AreHandRounds : List ℕ → Limits → ℕ → ℕ → ℕ → State (Stamped Hand) (Stamped Held) → List HandRound →
+    Type 0
 AreHandRounds file limits round era base c [] = Unit {0}
 AreHandRounds file limits round era base c (r ∷ rs) =
     (r.base ≡ base) × IsHandRound file limits round era c r
@@ -80,22 +83,31 @@ abbrev pub listed_entries : List HandRound → List (List Entry)
 listed_entries rs = map (λ (r : HandRound). entries_of r.listed) rs
 
 -- the state after all rounds
-abbrev pub last_hands : State (Stamped Hand) (Stamped Held) → List HandRound → State (Stamped Hand) (Stamped Held)
+abbrev pub last_hands : State (Stamped Hand) (Stamped Held) → List HandRound → State (Stamped Hand)
+    (Stamped Held)
 last_hands c [] = c
 last_hands c (r ∷ rs) = last_hands (hands_after c r) rs
 
 -- The watched machine follows the rounds: it has rounds with the same stamps, their entries as they are listed tell them, and
 -- at the end all that workers and places keep stands in a history.
-pub record FollowsRounds (file : List ℕ) (limits : Limits) (round era base : ℕ) (c : State (Stamped Hand) (Stamped Held)) (m : State (Stamped Local) (Stamped Value)) (rs : List HandRound) : Type 0 where
+pub record FollowsRounds (file : List ℕ) (limits : Limits) (round era base : ℕ)
+    (c : State (Stamped Hand) (Stamped Held)) (m : State (Stamped Local) (Stamped Value))
+    (rs : List HandRound) : Type 0 where
   pub rounds : List WatchedRound
-  pub follow : AreRounds (stamped_turn file limits) (watched.between limits.slots) (λ (l : Stamped Local). l.last) (λ (x : Stamped Value). x.last) base m rounds
+  pub follow : AreRounds (stamped_turn file limits) (watched.between limits.slots)
+      (λ (l : Stamped Local). l.last) (λ (x : Stamped Value). x.last) base m rounds
   pub told : AreRoundsOf file limits.harts limits.epochs round era rounds (listed_entries rs)
   pub world : World
   pub history : List Moment
   pub stands :
       StandsStamped file limits (last_hands c rs)
-      (last_made (stamped_turn file limits) (watched.between limits.slots) (λ (l : Stamped Local). l.last) (λ (x : Stamped Value). x.last) m rounds) world history
+      (last_made (stamped_turn file limits) (watched.between limits.slots) (λ (l : Stamped Local). l.last)
+      (λ (x : Stamped Value). x.last) m rounds) world history
 
 -- what workers and places begin with, with no stamp drawn
 abbrev pub first_stamped_hands : List ℕ → Limits → State (Stamped Hand) (Stamped Held)
-first_stamped_hands file limits = record { local = λ t. with_stamp ((first_hands file limits).local t) 0; value = λ k. with_stamp ((first_hands file limits).value k) 0 }
+first_stamped_hands file limits = record {
+  local = λ t. with_stamp
+      ((first_hands file limits).local t) 0;
+  value = λ k. with_stamp ((first_hands file limits).value k) 0;
+}

@@ -36,21 +36,25 @@ ghost use Rattle.deed_histories.specs.Rounds.{HandRound, AreHandRounds, FollowsR
 /// The watched machine makes a deed as one turn, from the state that it has beside what workers and places keep; the entry tells
 /// it; and all stands in the history with the entry.
 pub fn deed_law()
-    ensures { (file : List ℕ) (limits : Limits) (c : State Hand Held) (m : State Local Value) (w : World) (h : List Moment) (t k : ℕ) (hand : Hand) (held : Held) (e : Entry) (acts : List Act) →
-        image_of file ≡ Ok file → Standing file limits c m w h → IsDeed file limits (era_now limits.epochs h) t k (c.local t) hand (c.value k) held e acts →
+    ensures { (file : List ℕ) (limits : Limits) (c : State Hand Held) (m : State Local Value) (w : World) (h : List Moment) (t k : ℕ) (hand : Hand)
+        (held : Held) (e : Entry) (acts : List Act) →
+        image_of file ≡ Ok file → Standing file limits c m w h → IsDeed file limits (era_now limits.epochs h) t k (c.local t) hand
+        (c.value k) held e acts →
         IsFollowed file limits c m h t k hand held e acts }
 {}
 
 /// It follows deeds that line up, as far as each thread by itself and each place by itself can tell.
 pub fn line_law()
-    ensures { (file : List ℕ) (limits : Limits) (c : State (Stamped Hand) (Stamped Held)) (m : State (Stamped Local) (Stamped Value)) (w : World) (h : List Moment) (ds : List HandDeed) →
+    ensures { (file : List ℕ) (limits : Limits) (c : State (Stamped Hand) (Stamped Held)) (m : State (Stamped Local) (Stamped Value)) (w : World)
+        (h : List Moment) (ds : List HandDeed) →
         image_of file ≡ Ok file → LinesUp c ds → Each (IsHandDeed file limits (era_now limits.epochs h)) ds → StandsStamped file limits c m w h →
         FollowsDeeds file limits c m h ds }
 {}
 
 /// So it follows round after round, with the eras that begin between them; and the entries as they are listed tell its rounds.
 pub fn rounds_law()
-    ensures { (file : List ℕ) (limits : Limits) (c : State (Stamped Hand) (Stamped Held)) (m : State (Stamped Local) (Stamped Value)) (w : World) (h : List Moment) (round era base : ℕ) (rs : List HandRound) →
+    ensures { (file : List ℕ) (limits : Limits) (c : State (Stamped Hand) (Stamped Held)) (m : State (Stamped Local) (Stamped Value)) (w : World)
+        (h : List Moment) (round era base : ℕ) (rs : List HandRound) →
         image_of file ≡ Ok file → StandsStamped file limits c m w h → era_now limits.epochs h ≡ era → AreHandRounds file limits round era base c rs →
         FollowsRounds file limits round era base c m rs }
 {}

@@ -39,7 +39,8 @@ kept_first file limits ranges = record {
   within = within_first limits.epochs limits.slots;
 }
 
-pub first_stands : (file : List ℕ) (limits : Limits) → AreWatcherLimits limits → Standing file limits (first_hands file limits) (first_state file limits.slots) (start file limits.harts) []
+pub first_stands : (file : List ℕ) (limits : Limits) → AreWatcherLimits limits → Standing file limits (first_hands file limits)
+    (first_state file limits.slots) (start file limits.harts) []
 first_stands file limits ranges = record {
   watched = first_watched file limits.harts limits.epochs limits.slots [];
   leaving = λ t. false;

@@ -49,7 +49,8 @@ granted_at k t d x (events.Join of) at same g = subst (λ (y : DeskContents). Is
 granted_at k t d x events.End at same g = subst (λ (y : DeskContents). IsGranted y t events.End) (sym (same at)) g
 granted_at k t d x _ at same g = tt
 
-watcher_at : (k : ℕ) (told : Option (List ℕ)) (set : SyncObjects) (d x : DeskContents) (e : Event) (w : Watched) → IsAtDesk k e → (k ≡ desk → x ≡ d) → watcher_after told set x e w ≡ watcher_after told set d e w
+watcher_at : (k : ℕ) (told : Option (List ℕ)) (set : SyncObjects) (d x : DeskContents) (e : Event) (w : Watched) → IsAtDesk k e → (k ≡ desk → x ≡ d) →
+    watcher_after told set x e w ≡ watcher_after told set d e w
 watcher_at k told set d x (events.Join of) w at same = ap (λ (y : DeskContents). watcher_after told set y (events.Join of) w) (same at)
 watcher_at k told set d x events.Begin w at same = refl
 watcher_at k told set d x (events.Acquire addr part) w at same = refl
@@ -86,12 +87,17 @@ era_kept told set d _ w = refl
 made_grows : (d : DeskContents) (t : ℕ) (clock : List ℕ) (e : Event) → d.made ≤ (desk_after d t clock e).made
 made_grows d t clock (events.Create child) = go (desks.is_full d)
   where
-    go : (b : Bool) → d.made ≤ (cond b d (record d { made = d.made + 1; threads = Rattle.std.specs.Prelude.slice_set d.threads d.made (record { lives = true; told = Some clock }) })).made
+    go : (b : Bool) → d.made ≤ (cond b d (record d {
+      made = d.made + 1;
+      threads = Rattle.std.specs.Prelude.slice_set d.threads d.made
+          (record { lives = true; told = Some clock });
+    })).made
     go true = omega arith
     go false = omega arith
 made_grows d t clock events.End = go (Rattle.slot_desk.specs.Desks.held_of d t)
   where
-    go : (o : Option (ℕ × ℕ)) → d.made ≤ (Rattle.std.specs.Option.option_map_or (λ (h : ℕ × ℕ). desks.ended d t h.0 (Rattle.std.specs.Prelude.slice_index clock h.0) clock) o d).made
+    go : (o : Option (ℕ × ℕ)) → d.made ≤ (Rattle.std.specs.Option.option_map_or
+        (λ (h : ℕ × ℕ). desks.ended d t h.0 (Rattle.std.specs.Prelude.slice_index clock h.0) clock) o d).made
     go None = omega arith
     go (Some h) = omega arith
 made_grows d t clock _ = omega arith
@@ -140,7 +146,8 @@ pub record Heard (limits : Limits) (k t : ℕ) (given : ℕ → Option (Option (
   pub stood : Stood limits k t given h then b
   pub elsewhere : Elsewhere k t x then
 
-module _ (limits : Limits) (k t : ℕ) (given : ℕ → Option (Option (List ℕ))) (h : List Moment) (m : Moment) (x : Kept) (b c : Beside) (s : Stood limits k t given h x b) where
+module _ (limits : Limits) (k t : ℕ) (given : ℕ → Option (Option (List ℕ))) (h : List Moment) (m : Moment) (x : Kept) (b c : Beside)
+    (s : Stood limits k t given h x b) where
   abbrev later : List Moment
   later = h ++ m ∷ []
 
@@ -161,7 +168,8 @@ module _ (limits : Limits) (k t : ℕ) (given : ℕ → Option (Option (List ℕ
     still_given : (u : ℕ) (told : Option (List ℕ)) → IsGiven limits h u told → u < x.desk.made → IsGiven limits later u told
     still_given u told is below = record {
       long = is.long;
-      known = λ r l. ap (λ (y : Clocks). y.spot (Of (Given u)) r) clocks_then ∙ (given_stays limits.epochs (labels_now limits.epochs h) (clocks_now limits.epochs h) t e u r (other_child u below) ∙ is.known r l);
+      known = λ r l. ap (λ (y : Clocks). y.spot (Of (Given u)) r) clocks_then ∙
+          (given_stays limits.epochs (labels_now limits.epochs h) (clocks_now limits.epochs h) t e u r (other_child u below) ∙ is.known r l);
     }
 
     given_then : (y : DeskContents) → x.desk.made ≤ y.made → c.given ≡ given_after e b.given → AreGiven limits later y.made (but given t c.given)
@@ -183,7 +191,12 @@ module _ (limits : Limits) (k t : ℕ) (given : ℕ → Option (Option (List ℕ
     stood = record {
       leaving = s.leaving;
       stands = put_stands limits stripe s.leaving h m x t value count s.stands made;
-      fits = record { watched = s.fits.watched ∙ sym hears.watched; sync = s.fits.sync ∙ sym hears.objects; desk_is = λ q. s.fits.desk_is q ∙ sym hears.desk_is };
+      fits = record {
+        watched = s.fits.watched ∙ sym hears.watched;
+        sync = s.fits.sync ∙ sym hears.objects;
+        desk_is = λ q. s.fits.desk_is q
+            ∙ sym hears.desk_is;
+      };
       era = ap (λ (w : Watched). w.era) hears.watched ∙ (s.era ∙ sym (event_here (events.Put value count) made));
       are_given = given_then (events.Put value count) made tt x.desk (omega arith) hears.given;
     };
@@ -196,7 +209,12 @@ module _ (limits : Limits) (k t : ℕ) (given : ℕ → Option (Option (List ℕ
     told = told_in b.given
 
     going : IsGoing limits h (x.watchers t)
-    going = record { present = ap (λ (w : Watched). w.era) s.fits.watched ∙ s.era; label = label; labelled = ap (λ (w : Watched). w.label) s.fits.watched ∙ labelled }
+    going = record {
+      present = ap (λ (w : Watched). w.era) s.fits.watched ∙ s.era;
+      label = label;
+      labelled = ap (λ (w : Watched). w.label) s.fits.watched
+          ∙ labelled;
+    }
 
     if_begin : (f : Event) → HasGiven f b.given → IfBegin f (IsGiven limits h t told)
     if_begin events.Begin has =
@@ -227,7 +245,8 @@ module _ (limits : Limits) (k t : ℕ) (given : ℕ → Option (Option (List ℕ
       then = after;
       stood = record {
         leaving = leaving_after s.leaving t e (x.watchers t);
-        stands = event_stands limits stripe s.leaving h m x k t told c.sync s.stands going e made (if_begin e hears.has_given) hears.keeper granted changed;
+        stands = event_stands limits stripe s.leaving h m x k t told c.sync s.stands going e made
+            (if_begin e hears.has_given) hears.keeper granted changed;
         fits = record {
           watched = but_here x.watchers t t (watcher_after told (x.objects k) x.desk e (x.watchers t)) refl ∙ watcher_is;
           sync = but_here x.objects k k c.sync refl;

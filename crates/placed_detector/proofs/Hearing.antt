@@ -37,7 +37,8 @@ elsewhere_twice k t x y z a b = record {
 
 -- ---- the moment of one event
 
-module _ (file : List ℕ) (limits : Limits) (k t : ℕ) (given : ℕ → Option (Option (List ℕ))) (h : List Moment) (m : Moment) (ms : List Moment) (x : Kept) (b : Beside) (s : Stood limits k t given h x b) where
+module _ (file : List ℕ) (limits : Limits) (k t : ℕ) (given : ℕ → Option (Option (List ℕ))) (h : List Moment) (m : Moment) (ms : List Moment) (x : Kept)
+    (b : Beside) (s : Stood limits k t given h x b) where
   abbrev g : ℕ
   g = limits.epochs
 
@@ -58,7 +59,8 @@ module _ (file : List ℕ) (limits : Limits) (k t : ℕ) (given : ℕ → Option
 
   label_then : label_of g (items whole) n t ≡ b.watched.label
   label_then =
-      ap (λ (l : Labels). option_map {U = Label} (λ (r : ℕ). record { sid = r; epoch = l.epoch r; era = l.era }) (l.slot_of t)) (labels_stay g h (m ∷ ms) n le)
+      ap (λ (l : Labels). option_map {U = Label} (λ (r : ℕ). record { sid = r; epoch = l.epoch r; era = l.era }) (l.slot_of t))
+      (labels_stay g h (m ∷ ms) n le)
       ∙ sym label_here
 
   count_then : b.watched.trace.count % 4 ≡ length (trace_before g (items whole) n t) % 4
@@ -66,7 +68,8 @@ module _ (file : List ℕ) (limits : Limits) (k t : ℕ) (given : ℕ → Option
       ap (λ (w : Watched). w.trace.count % 4) (sym s.fits.watched)
       ∙ ap (λ (c : ℕ). c % 4) ((s.stands.watchers t).trace.counted ∙ ap (λ (xs : List TraceEvent). length xs) (sym (trace_stay g h (m ∷ ms) n t le)))
 
-  parts_checked : (l : Label) (a : Access) → b.watched.label ≡ Some l → (parts : List Part) (cs : List Check) → AllZip (ChecksPart b.watched l a) parts cs → AllZip (checks_of.ChecksPart g whole n t a) parts cs
+  parts_checked : (l : Label) (a : Access) → b.watched.label ≡ Some l → (parts : List Part) (cs : List Check) → AllZip (ChecksPart b.watched l a) parts cs →
+      AllZip (checks_of.ChecksPart g whole n t a) parts cs
   parts_checked l a is [] [] z = tt
   parts_checked l a is [] (c ∷ rest) z = absurd z
   parts_checked l a is (p ∷ parts) [] z = absurd z
@@ -77,7 +80,8 @@ module _ (file : List ℕ) (limits : Limits) (k t : ℕ) (given : ℕ → Option
 
   pub access_checked : (o : Option Access) → ChecksAccess file b.watched o m.checks → AreChecks g (granule_of file) whole n t o
   access_checked None z = ap (λ (y : Moment). y.checks) at_seam ∙ z
-  access_checked (Some a) z = subst (λ (y : Moment). AllZip (checks_of.ChecksPart g whole n t a) (parts_of (granule_of file) a) y.checks) (sym at_seam) (parts_checked z.0 a z.1 (parts_of (granule_of file) a) m.checks z.2)
+  access_checked (Some a) z = subst (λ (y : Moment). AllZip (checks_of.ChecksPart g whole n t a) (parts_of (granule_of file) a) y.checks) (sym at_seam)
+      (parts_checked z.0 a z.1 (parts_of (granule_of file) a) m.checks z.2)
 
   pub access_labelled : (o : Option Access) → ChecksAccess file b.watched o m.checks → IsLabelled (label_now g h t) o
   access_labelled None z = go (label_now g h t)
@@ -89,7 +93,8 @@ module _ (file : List ℕ) (limits : Limits) (k t : ℕ) (given : ℕ → Option
 
 -- ---- all of them
 
-pub record HeardAll (file : List ℕ) (limits : Limits) (k t : ℕ) (given : ℕ → Option (Option (List ℕ))) (loads : Loads) (i : ℕ) (h : List Moment) (ms : List Moment) (x : Kept) (es : List Event) (c : Beside) : Type 0 where
+pub record HeardAll (file : List ℕ) (limits : Limits) (k t : ℕ) (given : ℕ → Option (Option (List ℕ))) (loads : Loads) (i : ℕ) (h : List Moment)
+    (ms : List Moment) (x : Kept) (es : List Event) (c : Beside) : Type 0 where
   pub then : Kept
   pub stood : Stood limits k t given (h ++ ms) then c
   pub elsewhere : Elsewhere k t x then
@@ -97,7 +102,8 @@ pub record HeardAll (file : List ℕ) (limits : Limits) (k t : ℕ) (given : ℕ
   pub labelled : AreLabelled limits.epochs (label_now limits.epochs h t) es
 
 module _ (file : List ℕ) (limits : Limits) (k t : ℕ) (given : ℕ → Option (Option (List ℕ))) (loads : Loads) where
-  pub all_heard : (i : ℕ) (es : List Event) (css : List (List Check)) (ms : List Moment) (h : List Moment) (x : Kept) (b c : Beside) → Stood limits k t given h x b → HearsEvents file k t loads i es css b c → AreHeard t ms es css → HeardAll file limits k t given loads i h ms x es c
+  pub all_heard : (i : ℕ) (es : List Event) (css : List (List Check)) (ms : List Moment) (h : List Moment) (x : Kept) (b c : Beside) →
+      Stood limits k t given h x b → HearsEvents file k t loads i es css b c → AreHeard t ms es css → HeardAll file limits k t given loads i h ms x es c
   all_heard i [] [] [] h x b c s hears are = record {
     then = x;
     stood = subst (λ (y : List Moment). Stood limits k t given y x c) (sym (append-nil h)) (subst (Stood limits k t given h x) hears s);
@@ -114,7 +120,8 @@ module _ (file : List ℕ) (limits : Limits) (k t : ℕ) (given : ℕ → Option
       let long : length (h ++ m ∷ []) ≡ suc (length h) = Rattle.thread_events.proofs.Longer.length-push h m in
       let seam = at_seam file limits k t given h m ms x b s in
       let after : label_after limits.epochs (label_now limits.epochs h t) e ≡ label_now limits.epochs (h ++ m ∷ []) t =
-      own_label limits.epochs (labels_now limits.epochs h) t e ∙ ap (λ (l : Labels). label_in l t) (sym (labels_now-push limits.epochs h m ∙ ap (next_labels limits.epochs (labels_now limits.epochs h)) made)) in
+      own_label limits.epochs (labels_now limits.epochs h) t e ∙ ap (λ (l : Labels). label_in l t)
+      (sym (labels_now-push limits.epochs h m ∙ ap (next_labels limits.epochs (labels_now limits.epochs h)) made)) in
       record {
         then = rest.then;
         stood = subst (λ (y : List Moment). Stood limits k t given y rest.then c) whole rest.stood;
@@ -124,7 +131,8 @@ module _ (file : List ℕ) (limits : Limits) (k t : ℕ) (given : ℕ → Option
           access_checked file limits k t given h m ms x b s (access_of e) mine,
           subst (λ (y : Moment). Each StoresRightly y.checks) (sym seam) (subst (Each StoresRightly) (sym are.0.checks_are) hears.3),
           subst (λ (y : Moment). AreLoaded (loads i) 0 y.checks) (sym seam) (subst (AreLoaded (loads i) 0) (sym are.0.checks_are) hears.4),
-          subst (λ (y : List Moment). AreEvents file limits.epochs y t loads (suc (length h)) (i + 1) es) whole (subst (λ (j : ℕ). AreEvents file limits.epochs ((h ++ m ∷ []) ++ ms) t loads j (i + 1) es) long rest.right),
+          subst (λ (y : List Moment). AreEvents file limits.epochs y t loads (suc (length h)) (i + 1) es) whole
+              (subst (λ (j : ℕ). AreEvents file limits.epochs ((h ++ m ∷ []) ++ ms) t loads j (i + 1) es) long rest.right),
         );
         labelled = (
           access_labelled file limits k t given h m ms x b s (access_of e) mine,

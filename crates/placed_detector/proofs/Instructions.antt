@@ -44,10 +44,12 @@ use Rattle.placed_detector.proofs.Hearing.{HeardAll, all_heard}
 use Rattle.placed_detector.proofs.Longer.{watched_stays}
 
 -- what is kept stands, whoever writes it down
-pub stands_same : (limits : Limits) (keeper : ℕ → ℕ) (leaving : ℕ → Bool) (h : List Moment) (x y : Kept) → Stands limits keeper leaving h x → x.desk ≡ y.desk → ((k : ℕ) → x.objects k ≡ y.objects k) → ((t : ℕ) → x.watchers t ≡ y.watchers t) → Stands limits keeper leaving h y
+pub stands_same : (limits : Limits) (keeper : ℕ → ℕ) (leaving : ℕ → Bool) (h : List Moment) (x y : Kept) → Stands limits keeper leaving h x →
+    x.desk ≡ y.desk → ((k : ℕ) → x.objects k ≡ y.objects k) → ((t : ℕ) → x.watchers t ≡ y.watchers t) → Stands limits keeper leaving h y
 stands_same limits keeper leaving h x y s desk_is objects watchers = record {
   desk = subst (λ (d : DeskContents). IsDeskAt limits.epochs limits.slots (items h) (length h) d) desk_is s.desk;
-  objects = λ k. subst (λ (o : SyncObjects). KeepsChannels (is_kept_at keeper k) (era_now limits.epochs h) (clocks_now limits.epochs h) o) (objects k) (s.objects k);
+  objects = λ k. subst (λ (o : SyncObjects). KeepsChannels (is_kept_at keeper k) (era_now limits.epochs h) (clocks_now limits.epochs h) o) (objects k)
+      (s.objects k);
   object_slots = λ k. ap (λ (o : SyncObjects). o.slots) (sym (objects k)) ∙ s.object_slots k;
   watchers = λ t. subst (IsWatcherAt limits h t) (watchers t) (s.watchers t);
   settled = subst (λ (d : DeskContents). AreSettled leaving (labels_now limits.epochs h) d) desk_is s.settled;
@@ -55,9 +57,11 @@ stands_same limits keeper leaving h x y s desk_is objects watchers = record {
 }
 
 -- one thing is told of each event
-told_long : (file : List ℕ) (g t : ℕ) (loads : Loads) (i : ℕ) (o : Own) (v : clocks.Value) (w : Watch) (es : List Event) → length (events_told file g t loads i o v w es) ≡ length es
+told_long : (file : List ℕ) (g t : ℕ) (loads : Loads) (i : ℕ) (o : Own) (v : clocks.Value) (w : Watch) (es : List Event) → length
+    (events_told file g t loads i o v w es) ≡ length es
 told_long file g t loads i o v w [] = refl
-told_long file g t loads i o v w (e ∷ es) = ap suc (told_long file g t loads (i + 1) (own_after g e o v) (value_after g t e o v) (watch_after g o.label w e) es)
+told_long file g t loads i o v w (e ∷ es) = ap suc (told_long file g t loads (i + 1) (own_after g e o v) (value_after g t e o v)
+    (watch_after g o.label w e) es)
 
 heard_long : (t : ℕ) (ms : List Moment) (es : List Event) (css : List (List Check)) → AreHeard t ms es css → length ms ≡ length es
 heard_long t [] [] [] are = refl
@@ -72,8 +76,11 @@ dec u t = dite (ℕ_discrete u t) (λ p. inl p) (λ p. inr p)
 
 -- ---- from what is kept to what workers and places have
 
-pub kept_changed : (limits : Limits) (leaving : ℕ → Bool) (h : List Moment) (c : State Hand Held) (t k : ℕ) (hand : Hand) (held : Held) (y : Kept) → Stands limits stripe leaving h y → Fits k t (beside hand held) y → Elsewhere k t (kept_of c) y → Stands limits stripe leaving h (kept_of (left_with c t k hand held))
-kept_changed limits leaving h c t k hand held y s f e = stands_same limits stripe leaving h y (kept_of (left_with c t k hand held)) s desk_then objects_then watchers_then
+pub kept_changed : (limits : Limits) (leaving : ℕ → Bool) (h : List Moment) (c : State Hand Held) (t k : ℕ) (hand : Hand) (held : Held) (y : Kept) →
+    Stands limits stripe leaving h y → Fits k t (beside hand held) y → Elsewhere k t (kept_of c) y → Stands limits stripe leaving h
+    (kept_of (left_with c t k hand held))
+kept_changed limits leaving h c t k hand held y s f e = stands_same limits stripe leaving h y
+    (kept_of (left_with c t k hand held)) s desk_then objects_then watchers_then
   where
     desk_by : (k ≡ desk) ⊎ (k ≢ desk) → y.desk ≡ (but c.value k held desk).desk
     desk_by (inl q) = f.desk_is q ∙ ap (λ (v : Held). v.desk) (sym (but_here c.value k desk held (sym q)))
@@ -96,7 +103,8 @@ kept_changed limits leaving h c t k hand held y s f e = stands_same limits strip
     watchers_then : (u : ℕ) → y.watchers u ≡ (but c.local t hand u).watched
     watchers_then u = watchers_by u (dec u t)
 
-pub made_changed : (c : State Hand Held) (t k : ℕ) (hand : Hand) (held : Held) (y : Kept) → Fits k t (beside hand held) y → Elsewhere k t (kept_of c) y → y.desk ≡ (but c.value k held desk).desk
+pub made_changed : (c : State Hand Held) (t k : ℕ) (hand : Hand) (held : Held) (y : Kept) → Fits k t (beside hand held) y → Elsewhere k t (kept_of c) y →
+    y.desk ≡ (but c.value k held desk).desk
 made_changed c t k hand held y f e = go (dec k desk)
   where
     go : (k ≡ desk) ⊎ (k ≢ desk) → y.desk ≡ (but c.value k held desk).desk
@@ -105,9 +113,11 @@ made_changed c t k hand held y f e = go (dec k desk)
 
 -- ---- an instruction
 
-module _ (file : List ℕ) (limits : Limits) (ok : image_of file ≡ Ok file) (c : State Hand Held) (m : State Local Value) (w : World) (h : List Moment) (s : Standing file limits c m w h)
+module _ (file : List ℕ) (limits : Limits) (ok : image_of file ≡ Ok file) (c : State Hand Held) (m : State Local Value) (w : World) (h : List Moment)
+    (s : Standing file limits c m w h)
     (t k : ℕ) (loads : Loads) (hand : Hand) (held : Held) (es : List Event) (css : List (List Check)) (ms : List Moment)
-    (mk : MakesInstruction file limits.harts (era_now limits.epochs h) t k loads es css (c.local t) hand (c.value k) held) (are : AreHeard t ms es css) where
+    (mk : MakesInstruction file limits.harts (era_now limits.epochs h) t k loads es css (c.local t) hand (c.value k) held)
+    (are : AreHeard t ms es css) where
   abbrev g : ℕ
   g = limits.epochs
 
@@ -133,7 +143,8 @@ module _ (file : List ℕ) (limits : Limits) (ok : image_of file ≡ Ok file) (c
   heard = all_heard file limits k t given loads 0 es css ms h (kept_of c) (beside (c.local t) (c.value k)) (beside hand held) stood mk.heard are
 
   -- the watched turn
-  stepped_is : turns.bare_turn file limits.harts t turns.steps (m.local t).joint.bare (m.value k).bare ≡ record { local = hand.bare; value = held.bare; told = es }
+  stepped_is : turns.bare_turn file limits.harts t turns.steps (m.local t).joint.bare (m.value k).bare ≡ record
+      { local = hand.bare; value = held.bare; told = es }
   stepped_is = ap₂ (λ (x : machine.Local) (v : machine.Value). turns.bare_turn file limits.harts t turns.steps x v) (s.locals t) (s.values k) ∙ mk.stepped
 
   events_are : events_of file limits.harts t (m.local t).joint (m.value k) ≡ es
@@ -143,7 +154,8 @@ module _ (file : List ℕ) (limits : Limits) (ok : image_of file ≡ Ok file) (c
   at_place = subst (λ (x : machine.Local). IsAtPlace file x t k) (sym (s.locals t)) mk.at
 
   pub stand : StandFrom later n (watched_turn file limits.harts g t (steps loads) (m.local t) (m.value k)).told
-  stand = step_stands file limits.harts g limits.slots w later n m t k loads ok (watched_stays file limits.harts g limits.slots w h ms m s.watched) at_place
+  stand = step_stands file limits.harts g limits.slots w later n m t k loads ok
+      (watched_stays file limits.harts g limits.slots w h ms m s.watched) at_place
       (subst (λ (xs : List Event). AreEvents file g later t loads n 0 xs) (sym events_are) heard.right)
 
   labelled : AreLabelled g (m.local t).joint.own.label (events_of file limits.harts t (m.local t).joint (m.value k))
@@ -158,7 +170,8 @@ module _ (file : List ℕ) (limits : Limits) (ok : image_of file ≡ Ok file) (c
 
   pub long : n + length (watched_turn file limits.harts g t (steps loads) (m.local t) (m.value k)).told ≡ length later
   long =
-      let told = told_long file g t loads 0 (m.local t).joint.own (m.value k).clocks (m.local t).watch (events_of file limits.harts t (m.local t).joint (m.value k)) in
+      let told = told_long file g t loads 0 (m.local t).joint.own (m.value k).clocks (m.local t).watch
+      (events_of file limits.harts t (m.local t).joint (m.value k)) in
       let same = ap (λ (xs : List Event). length xs) events_are in
       let moments = heard_long t ms es css are in
       let whole = length-append h ms in
@@ -166,7 +179,8 @@ module _ (file : List ℕ) (limits : Limits) (ok : image_of file ≡ Ok file) (c
 
   watched_then : IsWatched file limits.harts g limits.slots (along.world_after file w t joint.steps) later (length later) then
   watched_then =
-      let one = comes_watched file limits.harts g limits.slots ok w later n m (watched_stays file limits.harts g limits.slots w h ms m s.watched) t k (steps loads) placed stand in
+      let one = comes_watched file limits.harts g limits.slots ok w later n m (watched_stays file limits.harts g limits.slots w h ms m s.watched) t k
+      (steps loads) placed stand in
       subst (λ (i : ℕ). IsWatched file limits.harts g limits.slots (along.world_after file w t joint.steps) later i then) long one.watched
 
   locals_then : (u : ℕ) → (then.local u).joint.bare ≡ (but c.local t hand u).bare
@@ -175,7 +189,8 @@ module _ (file : List ℕ) (limits : Limits) (ok : image_of file ≡ Ok file) (c
       go : (u ≡ t) ⊎ (u ≢ t) → (then.local u).joint.bare ≡ (but c.local t hand u).bare
       go (inl q) =
           ap (λ (l : Local). l.joint.bare) (but_here m.local t u (watched_turn file limits.harts g t (steps loads) (m.local t) (m.value k)).local q)
-          ∙ (ap (λ (o : Outcome machine.Local machine.Value (List Event)). o.local) stepped_is ∙ ap (λ (l : Hand). l.bare) (sym (but_here c.local t u hand q)))
+          ∙ (ap (λ (o : Outcome machine.Local machine.Value (List Event)). o.local) stepped_is ∙ ap (λ (l : Hand). l.bare)
+          (sym (but_here c.local t u hand q)))
       go (inr ne) =
           ap (λ (l : Local). l.joint.bare) (but_else m.local t u (watched_turn file limits.harts g t (steps loads) (m.local t) (m.value k)).local ne)
           ∙ (s.locals u ∙ ap (λ (l : Hand). l.bare) (sym (but_else c.local t u hand ne)))
@@ -186,15 +201,18 @@ module _ (file : List ℕ) (limits : Limits) (ok : image_of file ≡ Ok file) (c
       go : (j ≡ k) ⊎ (j ≢ k) → (then.value j).bare ≡ (but c.value k held j).bare
       go (inl q) =
           ap (λ (v : Value). v.bare) (but_here m.value k j (watched_turn file limits.harts g t (steps loads) (m.local t) (m.value k)).value q)
-          ∙ (ap (λ (o : Outcome machine.Local machine.Value (List Event)). o.value) stepped_is ∙ ap (λ (v : Held). v.bare) (sym (but_here c.value k j held q)))
+          ∙ (ap (λ (o : Outcome machine.Local machine.Value (List Event)). o.value) stepped_is ∙ ap (λ (v : Held). v.bare)
+          (sym (but_here c.value k j held q)))
       go (inr ne) =
           ap (λ (v : Value). v.bare) (but_else m.value k j (watched_turn file limits.harts g t (steps loads) (m.local t) (m.value k)).value ne)
           ∙ (s.values j ∙ ap (λ (v : Held). v.bare) (sym (but_else c.value k j held ne)))
 
   given_then : AreGiven limits later (but c.value k held desk).desk.made (λ u. (but c.local t hand u).given)
   given_then =
-      subst (λ (d : DeskContents). AreGiven limits later d.made (λ u. (but c.local t hand u).given)) (made_changed c t k hand held heard.then heard.stood.fits heard.elsewhere)
-      (subst (λ (f : ℕ → Option (Option (List ℕ))). AreGiven limits later heard.then.desk.made f) (sym (but_map (λ (l : Hand). l.given) c.local t hand)) heard.stood.are_given)
+      subst (λ (d : DeskContents). AreGiven limits later d.made (λ u. (but c.local t hand u).given))
+      (made_changed c t k hand held heard.then heard.stood.fits heard.elsewhere)
+      (subst (λ (f : ℕ → Option (Option (List ℕ))). AreGiven limits later heard.then.desk.made f)
+      (sym (but_map (λ (l : Hand). l.given) c.local t hand)) heard.stood.are_given)
 
   pub instruction_stands : Standing file limits (left_with c t k hand held) then (along.world_after file w t joint.steps) later
   instruction_stands = record {

@@ -14,11 +14,16 @@ whole_stays g slots h k =
     let le : length h ≤ length h = omega arith in
     λ i. record { labels = labels_stay g h k (length h) le i; clocks = clocks_stay g h k (length h) le i; queue = queue_stay g slots h k (length h) le i }
 
-pub watched_stays : (file : List ℕ) (harts g slots : ℕ) (w : World) (h k : List Moment) (m : State Local Value) → IsWatched file harts g slots w h (length h) m → IsWatched file harts g slots w (h ++ k) (length h) m
+pub watched_stays : (file : List ℕ) (harts g slots : ℕ) (w : World) (h k : List Moment) (m : State Local Value) → IsWatched file harts g slots w h
+    (length h) m → IsWatched file harts g slots w (h ++ k) (length h) m
 watched_stays file harts g slots w h k m j =
     let le : length h ≤ length h = omega arith in
     record {
-      joint = record { bare = j.joint.bare; clocks = subst (λ (x : Whole). HasClocks x (clocks_of (joint_of m))) (sym (whole_stays g slots h k)) j.joint.clocks };
+      joint = record {
+        bare = j.joint.bare;
+        clocks = subst (λ (x : Whole). HasClocks x (clocks_of (joint_of m)))
+            (sym (whole_stays g slots h k)) j.joint.clocks;
+      };
       watches = λ t. record {
         frames = (j.watches t).frames ∙ sym (frames_stay h k (length h) t le);
         locks = (j.watches t).locks ∙ sym (locks_stay h k (length h) t le);

@@ -45,7 +45,8 @@ use Rattle.placed_detector.proofs.Instructions.{dec, kept_changed, stands_same}
 
 -- ---- a note tells one thing
 
-module _ (file : List ℕ) (limits : Limits) (ok : image_of file ≡ Ok file) (m : State Local Value) (w : World) (h : List Moment) (watched : IsWatched file limits.harts limits.epochs limits.slots w h (length h) m)
+module _ (file : List ℕ) (limits : Limits) (ok : image_of file ≡ Ok file) (m : State Local Value) (w : World) (h : List Moment)
+    (watched : IsWatched file limits.harts limits.epochs limits.slots w h (length h) m)
     (t k : ℕ) (a : Act) (note : DeskNote) (mom : Moment) (is : mom.item ≡ Notes t note) (none : mom.checks ≡ [])
     (placed : IsPlaced file limits.harts limits.epochs (m.local t) (m.value k) t k a)
     (told_is : (watched_turn file limits.harts limits.epochs t a (m.local t) (m.value k)).told ≡ unchecked (Notes t note) ∷ []) where
@@ -53,12 +54,16 @@ module _ (file : List ℕ) (limits : Limits) (ok : image_of file ≡ Ok file) (m
   note_stands = subst (StandFrom (h ++ mom ∷ []) (length h)) (sym told_is)
       (record { item = item-seam h mom ∙ is; checks = ap (λ (x : Moment). map checked_of x.checks) (moment-seam h mom) ∙ ap (map checked_of) none }, tt)
 
-  pub noted : IsWatched file limits.harts limits.epochs limits.slots (along.world_after file w t (joint_act a)) (h ++ mom ∷ []) (length (h ++ mom ∷ [])) (next (watched_turn file limits.harts limits.epochs) m (single t k a))
+  pub noted : IsWatched file limits.harts limits.epochs limits.slots (along.world_after file w t (joint_act a)) (h ++ mom ∷ []) (length (h ++ mom ∷ []))
+      (next (watched_turn file limits.harts limits.epochs) m (single t k a))
   noted =
-      let one = comes_watched file limits.harts limits.epochs limits.slots ok w (h ++ mom ∷ []) (length h) m (watched_stays file limits.harts limits.epochs limits.slots w h (mom ∷ []) m watched) t k a placed note_stands in
+      let one = comes_watched file limits.harts limits.epochs limits.slots ok w (h ++ mom ∷ []) (length h) m
+      (watched_stays file limits.harts limits.epochs limits.slots w h (mom ∷ []) m watched) t k a placed note_stands in
       let long : length h + 1 ≡ length (h ++ mom ∷ []) = omega (arith, length-push h mom) in
-      let e : length h + length (watched_turn file limits.harts limits.epochs t a (m.local t) (m.value k)).told ≡ length (h ++ mom ∷ []) = ap (λ (xs : List Told). length h + length xs) told_is ∙ long in
-      subst (λ (i : ℕ). IsWatched file limits.harts limits.epochs limits.slots (along.world_after file w t (joint_act a)) (h ++ mom ∷ []) i (next (watched_turn file limits.harts limits.epochs) m (single t k a))) e one.watched
+      let e : length h + length (watched_turn file limits.harts limits.epochs t a (m.local t) (m.value k)).told ≡ length (h ++ mom ∷ []) = ap
+      (λ (xs : List Told). length h + length xs) told_is ∙ long in
+      subst (λ (i : ℕ). IsWatched file limits.harts limits.epochs limits.slots (along.world_after file w t (joint_act a)) (h ++ mom ∷ []) i
+      (next (watched_turn file limits.harts limits.epochs) m (single t k a))) e one.watched
 
 -- a note leaves what is given at each spot
 spot_noted : (g : ℕ) (l : Labels) (k : Clocks) (t : ℕ) (note : DeskNote) (y : Spot) (r : ℕ) → (next_clocks g l k (Notes t note)).spot y r ≡ k.spot y r
@@ -70,15 +75,18 @@ spot_noted g l k t (Attach a) y r = go (can_attach l t a.sid)
     go true = refl
     go false = refl
 
-given_noted : (limits : Limits) (h : List Moment) (mom : Moment) (t u : ℕ) (note : DeskNote) (told : Option (List ℕ)) → mom.item ≡ Notes t note → IsGiven limits h u told → IsGiven limits (h ++ mom ∷ []) u told
+given_noted : (limits : Limits) (h : List Moment) (mom : Moment) (t u : ℕ) (note : DeskNote) (told : Option (List ℕ)) → mom.item ≡ Notes t note →
+    IsGiven limits h u told → IsGiven limits (h ++ mom ∷ []) u told
 given_noted limits h mom t u note told is given = record {
   long = given.long;
   known = λ r l.
-      ap (λ (y : Clocks). y.spot (Of (Given u)) r) (clocks_now-push limits.epochs h mom ∙ ap (next_clocks limits.epochs (labels_now limits.epochs h) (clocks_now limits.epochs h)) is)
+      ap (λ (y : Clocks). y.spot (Of (Given u)) r) (clocks_now-push limits.epochs h mom ∙ ap
+      (next_clocks limits.epochs (labels_now limits.epochs h) (clocks_now limits.epochs h)) is)
       ∙ (spot_noted limits.epochs (labels_now limits.epochs h) (clocks_now limits.epochs h) t note (Of (Given u)) r ∙ given.known r l);
 }
 
-module _ (file : List ℕ) (limits : Limits) (ok : image_of file ≡ Ok file) (c : State Hand Held) (m : State Local Value) (w : World) (h : List Moment) (s : Standing file limits c m w h) (t : ℕ) (mom : Moment) (none : mom.checks ≡ []) where
+module _ (file : List ℕ) (limits : Limits) (ok : image_of file ≡ Ok file) (c : State Hand Held) (m : State Local Value) (w : World) (h : List Moment)
+    (s : Standing file limits c m w h) (t : ℕ) (mom : Moment) (none : mom.checks ≡ []) where
   abbrev g : ℕ
   g = limits.epochs
 
@@ -106,7 +114,8 @@ module _ (file : List ℕ) (limits : Limits) (ok : image_of file ≡ Ok file) (c
 
   -- ---- a slot is left
 
-  module _ (label : Label) (is : mom.item ≡ Notes t (Leave label)) (left : Held) (lv : LeavesSlot (era_now limits.epochs h) t label (c.local t) (c.value desk) left) where
+  module _ (label : Label) (is : mom.item ≡ Notes t (Leave label)) (left : Held)
+      (lv : LeavesSlot (era_now limits.epochs h) t label (c.local t) (c.value desk) left) where
     abbrev then : State Local Value
     then = next (watched_turn file limits.harts g) m (single t desk (leaves label))
 
@@ -116,14 +125,17 @@ module _ (file : List ℕ) (limits : Limits) (ok : image_of file ≡ Ok file) (c
     made_stays : (c.value desk).desk.made ≡ left.desk.made
     made_stays = sym (ap (λ (v : Held). v.desk.made) lv.place ∙ go (Rattle.slot_desk.specs.Desks.held_of (c.value desk).desk t))
       where
-        go : (o : Option (ℕ × ℕ)) → (Rattle.std.specs.Option.option_map_or (λ (x : ℕ × ℕ). record (c.value desk).desk { slots = Rattle.std.specs.Prelude.slice_set (c.value desk).desk.slots x.0 (desks.spent_slot (slot_of (c.value desk).desk x.0)) }) o (c.value desk).desk).made ≡ (c.value desk).desk.made
+        go : (o : Option (ℕ × ℕ)) → (Rattle.std.specs.Option.option_map_or (λ (x : ℕ × ℕ). record (c.value desk).desk
+            { slots = Rattle.std.specs.Prelude.slice_set (c.value desk).desk.slots x.0 (desks.spent_slot (slot_of (c.value desk).desk x.0)) }) o
+            (c.value desk).desk).made ≡ (c.value desk).desk.made
         go None = refl
         go (Some x) = refl
 
     kept_then : Stands limits stripe (leaving_without s.leaving t) later (kept_of c')
     kept_then =
         kept_changed limits (leaving_without s.leaving t) later c t desk (c.local t) left (kept_left (kept_of c) t)
-        (left_stands limits stripe s.leaving h mom (kept_of c) t s.kept label is lv.holds (slotless limits.epochs h t (sym ((s.kept.watchers t).label lv.present) ∙ lv.lost)))
+        (left_stands limits stripe s.leaving h mom (kept_of c) t s.kept label is lv.holds
+        (slotless limits.epochs h t (sym ((s.kept.watchers t).label lv.present) ∙ lv.lost)))
         (record { watched = refl; sync = ap (λ (v : Held). v.sync) (sym lv.place); desk_is = λ q. ap (λ (v : Held). v.desk) (sym lv.place) })
         (record { watchers = λ u ne. refl; objects = λ j ne. refl; desk_stays = λ ne. absurd (ne refl) })
 
@@ -131,15 +143,21 @@ module _ (file : List ℕ) (limits : Limits) (ok : image_of file ≡ Ok file) (c
     locals_then u = go (dec u t)
       where
         go : (u ≡ t) ⊎ (u ≢ t) → (then.local u).joint.bare ≡ (c'.local u).bare
-        go (inl q) = ap (λ (l : Local). l.joint.bare) (but_here m.local t u (watched_turn file limits.harts g t (leaves label) (m.local t) (m.value desk)).local q) ∙ (s.locals t ∙ ap (λ (l : Hand). l.bare) (sym (but_here c.local t u (c.local t) q)))
-        go (inr ne) = ap (λ (l : Local). l.joint.bare) (but_else m.local t u (watched_turn file limits.harts g t (leaves label) (m.local t) (m.value desk)).local ne) ∙ (s.locals u ∙ ap (λ (l : Hand). l.bare) (sym (but_else c.local t u (c.local t) ne)))
+        go (inl q) = ap (λ (l : Local). l.joint.bare) (but_here m.local t u (watched_turn file limits.harts g t (leaves label) (m.local t)
+            (m.value desk)).local q) ∙ (s.locals t ∙ ap (λ (l : Hand). l.bare) (sym (but_here c.local t u (c.local t) q)))
+        go (inr ne) = ap (λ (l : Local). l.joint.bare) (but_else m.local t u
+            (watched_turn file limits.harts g t (leaves label) (m.local t) (m.value desk)).local ne) ∙
+            (s.locals u ∙ ap (λ (l : Hand). l.bare) (sym (but_else c.local t u (c.local t) ne)))
 
     values_then : (j : ℕ) → (then.value j).bare ≡ (c'.value j).bare
     values_then j = go (dec j desk)
       where
         go : (j ≡ desk) ⊎ (j ≢ desk) → (then.value j).bare ≡ (c'.value j).bare
-        go (inl q) = ap (λ (v : Value). v.bare) (but_here m.value desk j (watched_turn file limits.harts g t (leaves label) (m.local t) (m.value desk)).value q) ∙ (s.values desk ∙ (ap (λ (v : Held). v.bare) (sym lv.place) ∙ ap (λ (v : Held). v.bare) (sym (but_here c.value desk j left q))))
-        go (inr ne) = ap (λ (v : Value). v.bare) (but_else m.value desk j (watched_turn file limits.harts g t (leaves label) (m.local t) (m.value desk)).value ne) ∙ (s.values j ∙ ap (λ (v : Held). v.bare) (sym (but_else c.value desk j left ne)))
+        go (inl q) = ap (λ (v : Value). v.bare) (but_here m.value desk j (watched_turn file limits.harts g t (leaves label) (m.local t)
+            (m.value desk)).value q) ∙ (s.values desk ∙ (ap (λ (v : Held). v.bare) (sym lv.place) ∙ ap (λ (v : Held). v.bare)
+            (sym (but_here c.value desk j left q))))
+        go (inr ne) = ap (λ (v : Value). v.bare) (but_else m.value desk j (watched_turn file limits.harts g t (leaves label) (m.local t)
+            (m.value desk)).value ne) ∙ (s.values j ∙ ap (λ (v : Held). v.bare) (sym (but_else c.value desk j left ne)))
 
     same_given : (u : ℕ) → (c'.local u).given ≡ (c.local u).given
     same_given u = ap (λ (f : ℕ → Hand). (f u).given) (but_same c.local t)
@@ -159,7 +177,8 @@ module _ (file : List ℕ) (limits : Limits) (ok : image_of file ≡ Ok file) (c
 
   -- ---- a slot is taken
 
-  module _ (label : Label) (is : mom.item ≡ Notes t (Attach label)) (hand : Hand) (left : Held) (tk : TakesSlot limits (era_now limits.epochs h) t label (c.local t) hand (c.value desk) left) where
+  module _ (label : Label) (is : mom.item ≡ Notes t (Attach label)) (hand : Hand) (left : Held)
+      (tk : TakesSlot limits (era_now limits.epochs h) t label (c.local t) hand (c.value desk) left) where
     abbrev taken_then : State Local Value
     taken_then = next (watched_turn file limits.harts g) m (single t desk attaches)
 
@@ -190,15 +209,18 @@ module _ (file : List ℕ) (limits : Limits) (ok : image_of file ≡ Ok file) (c
     era_is : cd.era ≡ label.era
     era_is = s.watched.joint.clocks.at_desk.era ∙ (sym tk.present ∙ sym tk.attaches.era)
 
-    label_told : (x y : ℕ) → x ≡ label.epoch → y ≡ label.era → unchecked (Notes t (Attach (record { sid = label.sid; epoch = x; era = y }))) ∷ [] ≡ unchecked (Notes t (Attach label)) ∷ []
+    label_told : (x y : ℕ) → x ≡ label.epoch → y ≡ label.era → unchecked (Notes t (Attach (record { sid = label.sid; epoch = x; era = y }))) ∷
+        [] ≡ unchecked (Notes t (Attach label)) ∷ []
     label_told x y p q = λ i. unchecked (Notes t (Attach (record { sid = label.sid; epoch = p i; era = q i }))) ∷ []
 
     abbrev turned : List ℕ → List Told
     turned queue = map unchecked (attach_turn file limits.harts g t (m.local t).joint (m.value desk) queue).told
 
     -- the queue stands twice in the turn
-    told_by : (queue : List ℕ) → queue ≡ label.sid ∷ tk.attaches.rest → map unchecked (clock_turns.attached t (m.local t).joint.own cd queue (m.value desk).clocks).told ≡ unchecked (Notes t (Attach label)) ∷ []
-    told_by queue e = ap (λ (x : List ℕ). map unchecked (clock_turns.attached t (m.local t).joint.own cd x (m.value desk).clocks).told) e ∙ label_told (cd.last label.sid + 1) cd.era last_is era_is
+    told_by : (queue : List ℕ) → queue ≡ label.sid ∷ tk.attaches.rest → map unchecked
+        (clock_turns.attached t (m.local t).joint.own cd queue (m.value desk).clocks).told ≡ unchecked (Notes t (Attach label)) ∷ []
+    told_by queue e = ap (λ (x : List ℕ). map unchecked (clock_turns.attached t (m.local t).joint.own cd x (m.value desk).clocks).told) e ∙ label_told
+        (cd.last label.sid + 1) cd.era last_is era_is
 
     pub told_is : (watched_turn file limits.harts g t attaches (m.local t) (m.value desk)).told ≡ unchecked (Notes t (Attach label)) ∷ []
     told_is = ap turned queue_is ∙ told_by cd.queue queue_is
@@ -215,17 +237,26 @@ module _ (file : List ℕ) (limits : Limits) (ok : image_of file ≡ Ok file) (c
         kept_changed limits s.leaving later c t desk hand left (kept_attached (kept_of c) t label)
         (attached_stands limits stripe s.leaving h mom (kept_of c) t s.kept label is tk.attaches tk.present)
         (record {
-          watched = but_here (kept_of c).watchers t t (labelled (with_clock (c.local t).watched (desks.clock_after_attach d (c.local t).watched.clock)) label) refl ∙ ap (λ (l : Hand). l.watched) (sym tk.hand);
+          watched = but_here (kept_of c).watchers t t (labelled (with_clock (c.local t).watched
+              (desks.clock_after_attach d (c.local t).watched.clock)) label) refl ∙ ap (λ (l : Hand). l.watched) (sym tk.hand);
           sync = ap (λ (v : Held). v.sync) (sym tk.place);
           desk_is = λ q. ap (λ (v : Held). v.desk) (sym tk.place);
         })
-        (record { watchers = λ u ne. but_else (kept_of c).watchers t u (labelled (with_clock (c.local t).watched (desks.clock_after_attach d (c.local t).watched.clock)) label) ne; objects = λ j ne. refl; desk_stays = λ ne. absurd (ne refl) })
+        (record {
+          watchers = λ u ne. but_else (kept_of c).watchers t u (labelled
+              (with_clock (c.local t).watched
+              (desks.clock_after_attach d (c.local t).watched.clock)) label) ne;
+          objects = λ j ne. refl;
+          desk_stays = λ ne. absurd (ne refl);
+        })
 
     -- the bare machine's part
-    bare_turned : (queue : List ℕ) → queue ≡ label.sid ∷ tk.attaches.rest → (attach_turn file limits.harts g t (m.local t).joint (m.value desk) queue).local.bare ≡ turns.arrived t (m.local t).joint.bare (machine.desk_in (m.value desk).bare) (m.local t).joint.bare.thread
+    bare_turned : (queue : List ℕ) → queue ≡ label.sid ∷ tk.attaches.rest → (attach_turn file limits.harts g t (m.local t).joint
+        (m.value desk) queue).local.bare ≡ turns.arrived t (m.local t).joint.bare (machine.desk_in (m.value desk).bare) (m.local t).joint.bare.thread
     bare_turned queue e = ap (λ (x : List ℕ). (attach_turn file limits.harts g t (m.local t).joint (m.value desk) x).local.bare) e
 
-    bare_stays : (queue : List ℕ) → queue ≡ label.sid ∷ tk.attaches.rest → (attach_turn file limits.harts g t (m.local t).joint (m.value desk) queue).value.bare ≡ (m.value desk).bare
+    bare_stays : (queue : List ℕ) → queue ≡ label.sid ∷ tk.attaches.rest → (attach_turn file limits.harts g t (m.local t).joint
+        (m.value desk) queue).value.bare ≡ (m.value desk).bare
     bare_stays queue e = ap (λ (x : List ℕ). (attach_turn file limits.harts g t (m.local t).joint (m.value desk) x).value.bare) e
 
     locals_taken : (u : ℕ) → (taken_then.local u).joint.bare ≡ (c_taken.local u).bare
@@ -237,7 +268,9 @@ module _ (file : List ℕ) (limits : Limits) (ok : image_of file ≡ Ok file) (c
             ∙ (bare_turned cd.queue queue_is
             ∙ (ap₂ (λ (x : machine.Local) (v : machine.Value). turns.arrived t x (machine.desk_in v) x.thread) (s.locals t) (s.values desk)
             ∙ (ap (λ (l : Hand). l.bare) (sym tk.hand) ∙ ap (λ (l : Hand). l.bare) (sym (but_here c.local t u hand q)))))
-        go (inr ne) = ap (λ (l : Local). l.joint.bare) (but_else m.local t u (watched_turn file limits.harts g t attaches (m.local t) (m.value desk)).local ne) ∙ (s.locals u ∙ ap (λ (l : Hand). l.bare) (sym (but_else c.local t u hand ne)))
+        go (inr ne) = ap (λ (l : Local). l.joint.bare) (but_else m.local t u
+            (watched_turn file limits.harts g t attaches (m.local t) (m.value desk)).local ne) ∙
+            (s.locals u ∙ ap (λ (l : Hand). l.bare) (sym (but_else c.local t u hand ne)))
 
     values_taken : (j : ℕ) → (taken_then.value j).bare ≡ (c_taken.value j).bare
     values_taken j = go (dec j desk)
@@ -245,8 +278,10 @@ module _ (file : List ℕ) (limits : Limits) (ok : image_of file ≡ Ok file) (c
         go : (j ≡ desk) ⊎ (j ≢ desk) → (taken_then.value j).bare ≡ (c_taken.value j).bare
         go (inl q) =
             ap (λ (v : Value). v.bare) (but_here m.value desk j (watched_turn file limits.harts g t attaches (m.local t) (m.value desk)).value q)
-            ∙ (bare_stays cd.queue queue_is ∙ (s.values desk ∙ (ap (λ (v : Held). v.bare) (sym tk.place) ∙ ap (λ (v : Held). v.bare) (sym (but_here c.value desk j left q)))))
-        go (inr ne) = ap (λ (v : Value). v.bare) (but_else m.value desk j (watched_turn file limits.harts g t attaches (m.local t) (m.value desk)).value ne) ∙ (s.values j ∙ ap (λ (v : Held). v.bare) (sym (but_else c.value desk j left ne)))
+            ∙ (bare_stays cd.queue queue_is ∙ (s.values desk ∙ (ap (λ (v : Held). v.bare) (sym tk.place) ∙ ap (λ (v : Held). v.bare)
+            (sym (but_here c.value desk j left q)))))
+        go (inr ne) = ap (λ (v : Value). v.bare) (but_else m.value desk j (watched_turn file limits.harts g t attaches (m.local t)
+            (m.value desk)).value ne) ∙ (s.values j ∙ ap (λ (v : Held). v.bare) (sym (but_else c.value desk j left ne)))
 
     -- what the thread was given
     made_then : (but c.value desk left desk).desk.made ≡ d.made
@@ -258,8 +293,11 @@ module _ (file : List ℕ) (limits : Limits) (ok : image_of file ≡ Ok file) (c
 
     its_given : (o : Option Thread) (told : Option (List ℕ)) → given_at d t o (c.local t).given ≡ Some told → IsGiven limits h t told × (t < d.made)
     its_given None told q =
-        let same : (thread_of d t).told ≡ told = some_is q in
-        (subst (IsGiven limits h t) same (record { long = s.kept.desk.desk.told.long t; known = λ r l. s.kept.desk.desk.told.given t r l tk.lives }), tk.made)
+        let same : (thread_of d t).told ≡ told = some_is q in (
+          subst (IsGiven limits h t) same
+              (record { long = s.kept.desk.desk.told.long t; known = λ r l. s.kept.desk.desk.told.given t r l tk.lives }),
+          tk.made,
+        )
       where
         some_is : Some (thread_of d t).told ≡ Some told → (thread_of d t).told ≡ told
         some_is z = cc
@@ -268,7 +306,8 @@ module _ (file : List ℕ) (limits : Limits) (ok : image_of file ≡ Ok file) (c
     given_by : (u : ℕ) → (u ≡ t) ⊎ (u ≢ t) → (told : Option (List ℕ)) → (but c.local t hand u).given ≡ Some told → IsGiven limits h u told × (u < d.made)
     given_by u (inl same) told q =
         subst (λ (v : ℕ). IsGiven limits h v told × (v < d.made)) (sym same)
-        (its_given (c.local t).bare.thread told (sym (ap (λ (l : Hand). l.given) (but_here c.local t u hand same) ∙ ap (λ (l : Hand). l.given) tk.hand) ∙ q))
+        (its_given (c.local t).bare.thread told (sym (ap (λ (l : Hand). l.given) (but_here c.local t u hand same) ∙ ap (λ (l : Hand). l.given) tk.hand)
+        ∙ q))
     given_by u (inr ne) told q = s.given u told (sym (ap (λ (l : Hand). l.given) (but_else c.local t u hand ne)) ∙ q)
 
     pub taken_slot_stands : Standing file limits c_taken taken_then w later
@@ -285,13 +324,17 @@ module _ (file : List ℕ) (limits : Limits) (ok : image_of file ≡ Ok file) (c
 
 -- ---- an era begins
 
-pub era_standing : (file : List ℕ) (limits : Limits) (c : State Hand Held) (m : State Local Value) (w : World) (h : List Moment) (mom : Moment) → Standing file limits c m w h → mom.item ≡ NewEra → ((t : ℕ) → (c.local t).given ≡ None) →
+pub era_standing : (file : List ℕ) (limits : Limits) (c : State Hand Held) (m : State Local Value) (w : World) (h : List Moment) (mom : Moment) →
+    Standing file limits c m w h → mom.item ≡ NewEra → ((t : ℕ) → (c.local t).given ≡ None) →
     Standing file limits (in_new_era c) (era_after limits.slots m) w (h ++ mom ∷ [])
 era_standing file limits c m w h mom s is none = record {
-  watched = subst (λ (i : ℕ). IsWatched file limits.harts limits.epochs limits.slots w (h ++ mom ∷ []) i (era_after limits.slots m)) (sym (length-push h mom))
-      (era_watched file limits.harts limits.epochs limits.slots w (h ++ mom ∷ []) (length h) m (item-seam h mom ∙ is) (watched_stays file limits.harts limits.epochs limits.slots w h (mom ∷ []) m s.watched));
+  watched = subst (λ (i : ℕ). IsWatched file limits.harts limits.epochs limits.slots w (h ++ mom ∷ []) i (era_after limits.slots m))
+      (sym (length-push h mom))
+      (era_watched file limits.harts limits.epochs limits.slots w (h ++ mom ∷ []) (length h) m (item-seam h mom ∙ is)
+      (watched_stays file limits.harts limits.epochs limits.slots w h (mom ∷ []) m s.watched));
   leaving = λ t. false;
-  kept = stands_same limits stripe (λ t. false) (h ++ mom ∷ []) (kept_in_era (kept_of c)) (kept_of (in_new_era c)) (era_stands limits stripe s.leaving h mom (kept_of c) s.kept is)
+  kept = stands_same limits stripe (λ t. false) (h ++ mom ∷ []) (kept_in_era (kept_of c)) (kept_of (in_new_era c))
+      (era_stands limits stripe s.leaving h mom (kept_of c) s.kept is)
       (ap (λ (v : Held). v.desk) (sym (but_here c.value desk desk (record (c.value desk) { desk = desks.after_reset (c.value desk).desk }) refl)))
       (λ k. objects_by k (dec k desk)) (λ t. refl);
   given = λ t told q. absurd (no_given t told q);
@@ -300,12 +343,16 @@ era_standing file limits c m w h mom s is none = record {
 }
   where
     objects_by : (k : ℕ) → (k ≡ desk) ⊎ (k ≢ desk) → (c.value k).sync ≡ ((in_new_era c).value k).sync
-    objects_by k (inl q) = ap (λ (j : ℕ). (c.value j).sync) q ∙ ap (λ (v : Held). v.sync) (sym (but_here c.value desk k (record (c.value desk) { desk = desks.after_reset (c.value desk).desk }) q))
-    objects_by k (inr ne) = ap (λ (v : Held). v.sync) (sym (but_else c.value desk k (record (c.value desk) { desk = desks.after_reset (c.value desk).desk }) ne))
+    objects_by k (inl q) = ap (λ (j : ℕ). (c.value j).sync) q ∙ ap (λ (v : Held). v.sync)
+        (sym (but_here c.value desk k (record (c.value desk) { desk = desks.after_reset (c.value desk).desk }) q))
+    objects_by k (inr ne) = ap (λ (v : Held). v.sync) (sym (but_else c.value desk k
+        (record (c.value desk) { desk = desks.after_reset (c.value desk).desk }) ne))
 
     values_by : (k : ℕ) → (k ≡ desk) ⊎ (k ≢ desk) → (c.value k).bare ≡ ((in_new_era c).value k).bare
-    values_by k (inl q) = ap (λ (j : ℕ). (c.value j).bare) q ∙ ap (λ (v : Held). v.bare) (sym (but_here c.value desk k (record (c.value desk) { desk = desks.after_reset (c.value desk).desk }) q))
-    values_by k (inr ne) = ap (λ (v : Held). v.bare) (sym (but_else c.value desk k (record (c.value desk) { desk = desks.after_reset (c.value desk).desk }) ne))
+    values_by k (inl q) = ap (λ (j : ℕ). (c.value j).bare) q ∙ ap (λ (v : Held). v.bare)
+        (sym (but_here c.value desk k (record (c.value desk) { desk = desks.after_reset (c.value desk).desk }) q))
+    values_by k (inr ne) = ap (λ (v : Held). v.bare) (sym (but_else c.value desk k
+        (record (c.value desk) { desk = desks.after_reset (c.value desk).desk }) ne))
 
     no_given : (t : ℕ) (told : Option (List ℕ)) → (c.local t).given ≡ Some told → ⊥
     no_given t told q = let z = sym (none t) ∙ q in cc

@@ -10,6 +10,16 @@ use Rattle.placed_detector.specs.Standing.{Hand, Held}
 -- no thread has arrived; memory is as the file has it, and the main thread is at the desk
 abbrev pub first_hands : List ℕ → Limits → State Hand Held
 first_hands file limits = record {
-  local = λ t. record { bare = record { thread = None; reserved = None }; watched = new_watched t limits; given = None };
-  value = λ k. record { bare = first_value file k; sync = record { slots = limits.slots; objects = []; spare = 0 }; desk = new_desk limits };
+  local = λ t. record {
+    bare = record
+        { thread = None; reserved = None };
+    watched = new_watched t limits;
+    given = None;
+  };
+  value = λ k. record {
+    bare = first_value file k;
+    sync = record
+        { slots = limits.slots; objects = []; spare = 0 };
+    desk = new_desk limits;
+  };
 }

@@ -84,7 +84,8 @@ pub record ChecksPart (w : Watched) (label : Label) (a : Access) (part : Part) (
 
 -- one for each part, where the event is an access, and else none
 abbrev pub ChecksAccess : List ℕ → Watched → Option Access → List Check → Type 0
-ChecksAccess file w (Some a) checks = (l : Label) × (w.label ≡ Some l) × AllZip (ChecksPart w l a) (parts_of (granule_of file) a) checks
+ChecksAccess file w (Some a) checks = (l : Label) × (w.label ≡ Some l) × AllZip (ChecksPart w l a)
+    (parts_of (granule_of file) a) checks
 ChecksAccess file w None checks = checks ≡ []
 
 -- ---- all events of an instruction
@@ -94,7 +95,8 @@ ChecksAccess file w None checks = checks ≡ []
 abbrev pub HearsEvents : List ℕ → ℕ → ℕ → Loads → ℕ → List Event → List (List Check) → Beside → Beside → Type 0
 HearsEvents file k t loads i [] [] old new = old ≡ new
 HearsEvents file k t loads i (e ∷ es) (checks ∷ rest) old new =
-    (next : Beside) × HearsEvent k t e old next × ChecksAccess file old.watched (access_of e) checks × Each StoresRightly checks × AreLoaded (loads i) 0 checks
+    (next : Beside) × HearsEvent k t e old next × ChecksAccess file old.watched (access_of e) checks
+    × Each StoresRightly checks × AreLoaded (loads i) 0 checks
     × HearsEvents file k t loads (i + 1) es rest next new
 HearsEvents file k t loads i _ _ old new = ⊥
 
@@ -109,8 +111,10 @@ AreHeard t (m ∷ ms) (e ∷ es) (checks ∷ rest) = IsHeard t m e checks × Are
 AreHeard t _ _ _ = ⊥
 
 -- One instruction of thread t at place k, in that era. The bare machine's turn tells these events, and they are heard.
-pub record MakesInstruction (file : List ℕ) (harts era t k : ℕ) (loads : Loads) (es : List Event) (checks : List (List Check)) (found left : Hand) (place_found place_left : Held) : Type 0 where
+pub record MakesInstruction (file : List ℕ) (harts era t k : ℕ) (loads : Loads) (es : List Event)
+    (checks : List (List Check)) (found left : Hand) (place_found place_left : Held) : Type 0 where
   pub present : found.watched.era ≡ era
   pub at : IsAtPlace file found.bare t k
-  pub stepped : turns.bare_turn file harts t turns.steps found.bare place_found.bare ≡ record { local = left.bare; value = place_left.bare; told = es }
+  pub stepped : turns.bare_turn file harts t turns.steps found.bare place_found.bare ≡ record
+      { local = left.bare; value = place_left.bare; told = es }
   pub heard : HearsEvents file k t loads 0 es checks (beside found place_found) (beside left place_left)

@@ -27,7 +27,8 @@ with_slot t label l v = record {
 }
 
 -- Thread t, which lives and was made, takes the slot at the desk's front in that era.
-pub record TakesSlot (limits : Limits) (era t : ℕ) (label : Label) (found left : Hand) (place_found place_left : Held) : Type 0 where
+pub record TakesSlot (limits : Limits) (era t : ℕ) (label : Label) (found left : Hand)
+    (place_found place_left : Held) : Type 0 where
   pub present : found.watched.era ≡ era
   pub attaches : Attaches limits place_found.desk found.watched t label
   pub lives : (thread_of place_found.desk t).lives ≡ true
@@ -45,4 +46,7 @@ pub record LeavesSlot (era t : ℕ) (label : Label) (found : Hand) (place_found 
 
 -- the desk forgets clocks and slots
 abbrev pub in_new_era : State Hand Held → State Hand Held
-in_new_era c = record c { value = but c.value desk (record (c.value desk) { desk = desks.after_reset (c.value desk).desk }) }
+in_new_era c = record c {
+  value = but c.value desk (record (c.value desk)
+      { desk = desks.after_reset (c.value desk).desk });
+}

@@ -31,16 +31,23 @@ pub record Held : Type 0 where
 
 -- all that is kept, as the laws of events have it: the objects of an address are at its stripe
 abbrev pub kept_of : State Hand Held → Kept
-kept_of c = record { desk = (c.value desk).desk; objects = λ k. (c.value k).sync; watchers = λ t. (c.local t).watched }
+kept_of c = record {
+  desk = (c.value desk).desk;
+  objects = λ k. (c.value k).sync;
+  watchers = λ t.
+      (c.local t).watched;
+}
 
 -- what a thread took is what its creator left for it, and the thread was made
 abbrev pub AreGiven : Limits → List Moment → ℕ → (ℕ → Option (Option (List ℕ))) → Type 0
-AreGiven limits h made given = (t : ℕ) (told : Option (List ℕ)) → given t ≡ Some told → IsGiven limits h t told × (t < made)
+AreGiven limits h made given = (t : ℕ) (told : Option (List ℕ)) → given t ≡ Some told → IsGiven limits h t told
+    × (t < made)
 
 -- Workers and places stand as the history leaves them, and the watched machine beside them has the same threads, memory and
 -- desk.
 pub record Standing
-    (file : List ℕ) (limits : Limits) (c : State Hand Held) (m : State Local Value) (w : World) (h : List Moment) : Type 0 where
+    (file : List ℕ) (limits : Limits) (c : State Hand Held) (m : State Local Value) (w : World)
+    (h : List Moment) : Type 0 where
   pub watched : IsWatched file limits.harts limits.epochs limits.slots w h (length h) m
   pub leaving : ℕ → Bool
   pub kept : Stands limits stripe leaving h (kept_of c)

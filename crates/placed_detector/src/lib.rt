@@ -38,32 +38,40 @@ ghost use Rattle.placed_detector.specs.Slots.{TakesSlot, LeavesSlot, in_new_era}
 
 /// All stands before any history, where no thread has arrived, memory is as the file has it, and the main thread is at the desk.
 pub fn first_law()
-    ensures { (file : List ℕ) (limits : Limits) → AreWatcherLimits limits → Standing file limits (first_hands file limits) (first_state file limits.slots) (start file limits.harts) [] }
+    ensures { (file : List ℕ) (limits : Limits) → AreWatcherLimits limits → Standing file limits (first_hands file limits) (first_state file limits.slots)
+        (start file limits.harts) [] }
 {}
 
 /// A thread makes an instruction at a place, with all its events, whose moments the history then has. The watched machine makes
 /// it too, by the words that the checks loaded, and all stands.
 pub fn instruction_law()
-    ensures { (file : List ℕ) (limits : Limits) (c : State Hand Held) (m : State Local Value) (w : World) (h ms : List Moment) (t k : ℕ) (loads : Loads) (hand : Hand) (held : Held) (es : List Event) (checks : List (List Check)) →
+    ensures { (file : List ℕ) (limits : Limits) (c : State Hand Held) (m : State Local Value) (w : World) (h ms : List Moment) (t k : ℕ) (loads : Loads)
+        (hand : Hand) (held : Held) (es : List Event) (checks : List (List Check)) →
         image_of file ≡ Ok file → Standing file limits c m w h →
         MakesInstruction file limits.harts (era_now limits.epochs h) t k loads es checks (c.local t) hand (c.value k) held → AreHeard t ms es checks →
-        Standing file limits (left_with c t k hand held) (next (watched_turn file limits.harts limits.epochs) m (single t k (steps loads))) (along.world_after file w t joint.steps) (h ++ ms) }
+        Standing file limits (left_with c t k hand held) (next (watched_turn file limits.harts limits.epochs) m (single t k (steps loads)))
+        (along.world_after file w t joint.steps) (h ++ ms) }
 {}
 
 /// So it is after the beginning of an entry: without a note, or with that of a slot which the thread takes or leaves at the
 /// desk.
 pub fn note_law()
-    ensures nothing { (file : List ℕ) (limits : Limits) (c : State Hand Held) (m : State Local Value) (w : World) (h : List Moment) (mom : Moment) (t k : ℕ) →
+    ensures nothing { (file : List ℕ) (limits : Limits) (c : State Hand Held) (m : State Local Value) (w : World) (h : List Moment) (mom : Moment)
+        (t k : ℕ) →
         image_of file ≡ Ok file → Standing file limits c m w h → mom.item ≡ Notes t Nothing → mom.checks ≡ [] →
         Standing file limits c (next (watched_turn file limits.harts limits.epochs) m (single t k begins)) w (h ++ mom ∷ []) }
-    ensures attach { (file : List ℕ) (limits : Limits) (c : State Hand Held) (m : State Local Value) (w : World) (h : List Moment) (mom : Moment) (t : ℕ) (label : Label) (hand : Hand) (held : Held) →
+    ensures attach { (file : List ℕ) (limits : Limits) (c : State Hand Held) (m : State Local Value) (w : World) (h : List Moment) (mom : Moment) (t : ℕ)
+        (label : Label) (hand : Hand) (held : Held) →
         image_of file ≡ Ok file → Standing file limits c m w h → mom.item ≡ Notes t (Attach label) → mom.checks ≡ [] →
         TakesSlot limits (era_now limits.epochs h) t label (c.local t) hand (c.value desk) held →
-        Standing file limits (left_with c t desk hand held) (next (watched_turn file limits.harts limits.epochs) m (single t desk attaches)) w (h ++ mom ∷ []) }
-    ensures leave { (file : List ℕ) (limits : Limits) (c : State Hand Held) (m : State Local Value) (w : World) (h : List Moment) (mom : Moment) (t : ℕ) (label : Label) (held : Held) →
+        Standing file limits (left_with c t desk hand held) (next (watched_turn file limits.harts limits.epochs) m (single t desk attaches)) w
+        (h ++ mom ∷ []) }
+    ensures leave { (file : List ℕ) (limits : Limits) (c : State Hand Held) (m : State Local Value) (w : World) (h : List Moment) (mom : Moment) (t : ℕ)
+        (label : Label) (held : Held) →
         image_of file ≡ Ok file → Standing file limits c m w h → mom.item ≡ Notes t (Leave label) → mom.checks ≡ [] →
         LeavesSlot (era_now limits.epochs h) t label (c.local t) (c.value desk) held →
-        Standing file limits (left_with c t desk (c.local t) held) (next (watched_turn file limits.harts limits.epochs) m (single t desk (leaves label))) w (h ++ mom ∷ []) }
+        Standing file limits (left_with c t desk (c.local t) held) (next (watched_turn file limits.harts limits.epochs) m
+        (single t desk (leaves label))) w (h ++ mom ∷ []) }
 {}
 
 /// And where an era begins, if each thread that was given something has begun.
