@@ -17,7 +17,7 @@ use Rattle.turn_histories.specs.Rounds.{IsIn, AreRoundsOf}
 use Rattle.woven_turns.specs.Weave.{LinesUp}
 use Rattle.woven_turns.specs.Following.{left_after}
 use Rattle.placed_detector.specs.Standing.{Hand, Held}
-use Rattle.placed_detector.specs.First.{first_hands}
+use Rattle.placed_detector.specs.First.{AreFirst}
 use Rattle.placed_detector.specs.Slots.{in_new_era}
 use Rattle.deed_histories.specs.Lines.{HandDeed, entries_of, IsHandDeed, stamped_turn, StandsStamped}
 
@@ -104,10 +104,8 @@ pub record FollowsRounds (file : List ℕ) (limits : Limits) (round era base : �
       (last_made (stamped_turn file limits) (watched.between limits.slots) (λ (l : Stamped Local). l.last)
       (λ (x : Stamped Value). x.last) m rounds) world history
 
--- what workers and places begin with, with no stamp drawn
-abbrev pub first_stamped_hands : List ℕ → Limits → State (Stamped Hand) (Stamped Held)
-first_stamped_hands file limits = record {
-  local = λ t. with_stamp
-      ((first_hands file limits).local t) 0;
-  value = λ k. with_stamp ((first_hands file limits).value k) 0;
-}
+-- what workers and places begin with, and no stamp was drawn
+pub record AreFirstStamped (file : List ℕ) (limits : Limits) (c : State (Stamped Hand) (Stamped Held)) : Type 0 where
+  pub first : AreFirst file limits (plain c)
+  pub threads : (t : ℕ) → (c.local t).last ≡ 0
+  pub places : (k : ℕ) → (c.value k).last ≡ 0

@@ -31,7 +31,7 @@ ghost use Rattle.woven_turns.specs.Weave.{LinesUp};
 ghost use Rattle.placed_detector.specs.Standing.{Hand, Held, Standing};
 ghost use Rattle.deed_histories.specs.Deeds.{IsDeed, IsFollowed};
 ghost use Rattle.deed_histories.specs.Lines.{HandDeed, IsHandDeed, StandsStamped, FollowsDeeds};
-ghost use Rattle.deed_histories.specs.Rounds.{HandRound, AreHandRounds, FollowsRounds, first_stamped_hands, listed_entries};
+ghost use Rattle.deed_histories.specs.Rounds.{HandRound, AreHandRounds, FollowsRounds, AreFirstStamped, listed_entries};
 
 /// The watched machine makes a deed as one turn, from the state that it has beside what workers and places keep; the entry tells
 /// it; and all stands in the history with the entry.
@@ -62,13 +62,14 @@ pub fn rounds_law()
 /// From the first state on, the entries of all rounds are a faithful history of threads that run at once. Their checks are those
 /// of the accesses, and store by the rule, whatever words were loaded.
 pub fn history_law()
-    ensures faithful { (file : List ℕ) (limits : Limits) (rs : List HandRound) →
-        AreWatcherLimits limits → image_of file ≡ Ok file → AreHandRounds file limits 0 0 0 (first_stamped_hands file limits) rs →
+    ensures faithful { (file : List ℕ) (limits : Limits) (c : State (Stamped Hand) (Stamped Held)) (rs : List HandRound) →
+        AreWatcherLimits limits → AreFirstStamped file limits c → image_of file ≡ Ok file → AreHandRounds file limits 0 0 0 c rs →
         IsFaithful AtOnce (bare_of file limits.harts) (all_entries (listed_entries rs)) }
-    ensures checks { (file : List ℕ) (limits : Limits) (rs : List HandRound) →
-        AreWatcherLimits limits → image_of file ≡ Ok file → AreHandRounds file limits 0 0 0 (first_stamped_hands file limits) rs →
-        AreAllChecks limits.epochs (granule_of file) (all_entries (listed_entries rs)) (moments (all_entries (listed_entries rs))) }
-    ensures stores { (file : List ℕ) (limits : Limits) (rs : List HandRound) →
-        AreWatcherLimits limits → image_of file ≡ Ok file → AreHandRounds file limits 0 0 0 (first_stamped_hands file limits) rs →
+    ensures checks { (file : List ℕ) (limits : Limits) (c : State (Stamped Hand) (Stamped Held)) (rs : List HandRound) →
+        AreWatcherLimits limits → AreFirstStamped file limits c → image_of file ≡ Ok file → AreHandRounds file limits 0 0 0 c rs →
+        let entries = all_entries (listed_entries rs) in
+        AreAllChecks limits.epochs (granule_of file) entries (moments entries) }
+    ensures stores { (file : List ℕ) (limits : Limits) (c : State (Stamped Hand) (Stamped Held)) (rs : List HandRound) →
+        AreWatcherLimits limits → AreFirstStamped file limits c → image_of file ≡ Ok file → AreHandRounds file limits 0 0 0 c rs →
         AllStoreRightly (moments (all_entries (listed_entries rs))) }
 {}

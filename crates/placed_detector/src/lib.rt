@@ -33,13 +33,13 @@ ghost use Rattle.race_core.specs.History.{era_now};
 ghost use Rattle.race_core.specs.Watched.{AreWatcherLimits};
 ghost use Rattle.placed_detector.specs.Standing.{Hand, Held, Standing, left_with};
 ghost use Rattle.placed_detector.specs.Instructions.{AreHeard, MakesInstruction};
-ghost use Rattle.placed_detector.specs.First.{first_hands};
+ghost use Rattle.placed_detector.specs.First.{AreFirst};
 ghost use Rattle.placed_detector.specs.Slots.{TakesSlot, LeavesSlot, in_new_era};
 
 /// All stands before any history, where no thread has arrived, memory is as the file has it, and the main thread is at the desk.
 pub fn first_law()
-    ensures { (file : List ℕ) (limits : Limits) → AreWatcherLimits limits → Standing file limits (first_hands file limits) (first_state file limits.slots)
-        (start file limits.harts) [] }
+    ensures { (file : List ℕ) (limits : Limits) (c : State Hand Held) → AreWatcherLimits limits → AreFirst file limits c →
+        Standing file limits c (first_state file limits.slots) (start file limits.harts) [] }
 {}
 
 /// A thread makes an instruction at a place, with all its events, whose moments the history then has. The watched machine makes

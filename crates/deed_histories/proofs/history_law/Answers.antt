@@ -5,16 +5,16 @@ use Rattle.deed_histories.proofs.Histories.{from_first}
 use Rattle.deed_histories.proofs.history_law.Goals as goal
 
 pub returns-clause-faithful : goal.returns-clause-faithful
-returns-clause-faithful c file limits rs ranges ok all =
-    let f = from_first file limits rs ranges ok all in
+returns-clause-faithful c file limits cs rs ranges first ok all =
+    let f = from_first file limits ranges cs first rs ok all in
     faithful file limits.harts limits.epochs limits.slots ok f.rounds (listed_entries rs) f.follow f.told
 
 pub returns-clause-checks : goal.returns-clause-checks
-returns-clause-checks c file limits rs ranges ok all =
-    let f = from_first file limits rs ranges ok all in
+returns-clause-checks c file limits cs rs ranges first ok all =
+    let f = from_first file limits ranges cs first rs ok all in
     all_checks file limits.harts limits.epochs limits.slots ok f.rounds (listed_entries rs) f.follow f.told
 
 pub returns-clause-stores : goal.returns-clause-stores
-returns-clause-stores c file limits rs ranges ok all =
-    let f = from_first file limits rs ranges ok all in
+returns-clause-stores c file limits cs rs ranges first ok all =
+    let f = from_first file limits ranges cs first rs ok all in
     all_stores file limits.harts limits.epochs limits.slots ok f.rounds (listed_entries rs) f.follow f.told
