@@ -1,0 +1,47 @@
+//! Deeds at the objects of the shared table, as the laws of workers have them.
+//!
+//! A worker finds and leaves an object of the table: a stripe, or the desk. What such an object keeps of its place is a function
+//! of it (`held_in`): the place's part of the bare machine, its synchronisation objects or its slots, and its last stamp. The laws
+//! say that a new table is where the laws of workers begin, and that deeds which workers tell along a past of the table line up as
+//! those laws ask.
+//!
+//! `shared_table`, `woven_turns`, `hart_steps` and `deed_histories` stand below this crate, with what is below them. Its functions do
+//! nothing: the contract of each is a law. The layer above has the workers' clauses for each round, and cites `woven_law`.
+#![tactic(auto)]
+
+ghost use Rattle.std.specs.Prelude.{◌≡◌, ℕ, List, ◌++◌};
+ghost use Rattle.run_record.specs.declared.limits.Limits.{Limits};
+ghost use Rattle.shared_table.specs.declared.object.Object.{Object};
+ghost use Rattle.shared_table.specs.declared.view.Layout.{Layout};
+ghost use Rattle.shared_table.specs.Past.{Past, Lawful};
+ghost use Rattle.turn_orders.specs.Machine.{State};
+ghost use Rattle.turn_orders.specs.LineUp.{Stamped};
+ghost use Rattle.woven_turns.specs.Weave.{Tags, LinesUp, weave, Worked};
+ghost use Rattle.woven_turns.specs.Following.{left_after};
+ghost use Rattle.placed_detector.specs.Standing.{Hand};
+ghost use Rattle.deed_histories.specs.Lines.{Tells};
+ghost use Rattle.deed_histories.specs.Rounds.{AreFirstStamped};
+ghost use Rattle.table_deeds.specs.Objects.{ObjectDeed, hand_deeds, held_at, AreFirstObjects};
+
+/// What a new table keeps, before any thread has arrived, is what the laws of workers begin with.
+pub fn first_law()
+    ensures { (file : List ℕ) (limits : Limits) (m : State (Stamped Hand) Object) → AreFirstObjects file limits m →
+        AreFirstStamped file limits (held_at file limits m) }
+{}
+
+/// Deeds at objects line up where those at what the objects keep do, and leave what the last objects keep.
+pub fn line_law()
+    ensures order { (file : List ℕ) (limits : Limits) (m : State (Stamped Hand) Object) (ds : List ObjectDeed) → LinesUp m ds →
+        LinesUp (held_at file limits m) (hand_deeds file limits ds) }
+    ensures left { (file : List ℕ) (limits : Limits) (m : State (Stamped Hand) Object) (ds : List ObjectDeed) →
+        left_after (held_at file limits m) (hand_deeds file limits ds) ≡ held_at file limits (left_after m ds) }
+{}
+
+/// The deeds that workers tell of a round, in the order of its past and with those that used no object behind them, line up from
+/// what the objects keep before the round.
+pub fn woven_law()
+    ensures { (file : List ℕ) (limits : Limits) (lay : Layout) (m : State (Stamped Hand) Object) (early late : Past)
+        (tag : Tags (Stamped Hand) (Unit {0}) Tells) (seat : ℕ → ℕ) (alone : List ObjectDeed) →
+        Lawful lay (late ++ early) → Worked lay m early late tag seat alone →
+        LinesUp (held_at file limits m) (hand_deeds file limits (weave tag late ++ alone)) }
+{}
