@@ -6,17 +6,19 @@
 //! those laws ask.
 //!
 //! `shared_table`, `woven_turns`, `hart_steps` and `deed_histories` stand below this crate, with what is below them. Its functions do
-//! nothing: the contract of each is a law. The layer above has the workers' clauses for each round, and cites `woven_law`.
+//! nothing: the contract of each is a law. The layer above has the workers' clauses for each round, and cites `woven_law`
+//! and `round_law`.
 #![tactic(auto)]
 
-ghost use Rattle.std.specs.Prelude.{◌≡◌, ℕ, List, ◌++◌};
+ghost use Rattle.std.specs.Prelude.{◌≡◌, ℕ, ◌<◌, List, ◌++◌, length, Some};
 ghost use Rattle.run_record.specs.declared.limits.Limits.{Limits};
 ghost use Rattle.shared_table.specs.declared.object.Object.{Object};
 ghost use Rattle.shared_table.specs.declared.view.Layout.{Layout};
-ghost use Rattle.shared_table.specs.Past.{Past, Lawful};
+ghost use Rattle.shared_table.specs.Layouts.{objects_of};
+ghost use Rattle.shared_table.specs.Past.{Past, turns_of, log_of, Lawful};
 ghost use Rattle.turn_orders.specs.Machine.{State};
-ghost use Rattle.turn_orders.specs.LineUp.{Stamped};
-ghost use Rattle.woven_turns.specs.Weave.{Tags, LinesUp, weave, Worked};
+ghost use Rattle.turn_orders.specs.LineUp.{Stamped, of_thread, last_local};
+ghost use Rattle.woven_turns.specs.Weave.{Tags, LinesUp, weave, first_deeds, Worked};
 ghost use Rattle.woven_turns.specs.Following.{left_after};
 ghost use Rattle.placed_detector.specs.Standing.{Hand};
 ghost use Rattle.deed_histories.specs.Lines.{Tells};
@@ -44,4 +46,17 @@ pub fn woven_law()
         (tag : Tags (Stamped Hand) (Unit {0}) Tells) (seat : ℕ → ℕ) (alone : List ObjectDeed) →
         Lawful lay (late ++ early) → Worked lay m early late tag seat alone →
         LinesUp (held_at file limits m) (hand_deeds file limits (weave tag late ++ alone)) }
+{}
+
+/// After a round the table has the objects that its deeds left, and each thread has what the last of its own deeds left.
+pub fn round_law()
+    ensures objects { (lay : Layout) (m : State (Stamped Hand) Object) (early late : Past)
+        (tag : Tags (Stamped Hand) (Unit {0}) Tells) (seat : ℕ → ℕ) (alone : List ObjectDeed) (k : ℕ) →
+        Lawful lay (late ++ early) → Worked lay m early late tag seat alone → k < objects_of lay →
+        (turns_of lay k (late ++ early)).value ≡ Some ((left_after m (weave tag late ++ alone)).value k) }
+    ensures threads { (lay : Layout) (m : State (Stamped Hand) Object) (early late : Past)
+        (tag : Tags (Stamped Hand) (Unit {0}) Tells) (seat : ℕ → ℕ) (alone : List ObjectDeed) (t : ℕ) →
+        Worked lay m early late tag seat alone →
+        (left_after m (weave tag late ++ alone)).local t
+        ≡ last_local (m.local t) (first_deeds (tag (seat t)) (length (log_of (seat t) late)) ++ of_thread t alone) }
 {}
