@@ -1,2 +1,4 @@
 pub mod First
 pub mod Lines
+pub mod Left
+pub mod Rounds

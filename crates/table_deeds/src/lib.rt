@@ -3,25 +3,35 @@
 //! A worker finds and leaves an object of the table: a stripe, or the desk. What such an object keeps of its place is a function
 //! of it (`held_in`): the place's part of the bare machine, its synchronisation objects or its slots, and its last stamp. The laws
 //! say that a new table is where the laws of workers begin, and that deeds which workers tell along a past of the table line up as
-//! those laws ask.
+//! those laws ask, round after round. So what workers tell of themselves gives a faithful history.
 //!
 //! `shared_table`, `woven_turns`, `hart_steps` and `deed_histories` stand below this crate, with what is below them. Its functions do
-//! nothing: the contract of each is a law. The layer above has the workers' clauses for each round, and cites `woven_law`.
+//! nothing: the contract of each is a law. The layer above has the workers' clauses for each round, gets from `round_law` what the
+//! table has after it, and cites `history_law`.
 #![tactic(auto)]
 
-ghost use Rattle.std.specs.Prelude.{◌≡◌, ℕ, List, ◌++◌};
+ghost use Rattle.std.specs.Prelude.{◌≡◌, ℕ, ◌<◌, List, ◌++◌, length, map, Some, Ok};
 ghost use Rattle.run_record.specs.declared.limits.Limits.{Limits};
+ghost use Rattle.elf_image.specs.File.{image_of, granule_of};
+ghost use Rattle.run_laws.specs.Moments.{moments};
+ghost use Rattle.run_laws.specs.Checks.{AreAllChecks, AllStoreRightly};
+ghost use Rattle.run_laws.specs.Faithful.{AtOnce, IsFaithful};
+ghost use Rattle.machine_laws.specs.Machine.{bare_of};
+ghost use Rattle.turn_histories.specs.Rounds.{all_entries};
+ghost use Rattle.race_core.specs.Watched.{AreWatcherLimits};
 ghost use Rattle.shared_table.specs.declared.object.Object.{Object};
 ghost use Rattle.shared_table.specs.declared.view.Layout.{Layout};
-ghost use Rattle.shared_table.specs.Past.{Past, Lawful};
+ghost use Rattle.shared_table.specs.Layouts.{objects_of};
+ghost use Rattle.shared_table.specs.Past.{Past, turns_of, log_of, Lawful};
 ghost use Rattle.turn_orders.specs.Machine.{State};
-ghost use Rattle.turn_orders.specs.LineUp.{Stamped};
-ghost use Rattle.woven_turns.specs.Weave.{Tags, LinesUp, weave, Worked};
+ghost use Rattle.turn_orders.specs.LineUp.{Stamped, of_thread, last_local};
+ghost use Rattle.woven_turns.specs.Weave.{Tags, LinesUp, weave, first_deeds, Worked};
 ghost use Rattle.woven_turns.specs.Following.{left_after};
 ghost use Rattle.placed_detector.specs.Standing.{Hand};
 ghost use Rattle.deed_histories.specs.Lines.{Tells};
-ghost use Rattle.deed_histories.specs.Rounds.{AreFirstStamped};
+ghost use Rattle.deed_histories.specs.Rounds.{AreHandRounds, AreFirstStamped};
 ghost use Rattle.table_deeds.specs.Objects.{ObjectDeed, hand_deeds, held_at, AreFirstObjects};
+ghost use Rattle.table_deeds.specs.Rounds.{TableRound, AreTableRounds, hand_round, entries_listed};
 
 /// What a new table keeps, before any thread has arrived, is what the laws of workers begin with.
 pub fn first_law()
@@ -44,4 +54,39 @@ pub fn woven_law()
         (tag : Tags (Stamped Hand) (Unit {0}) Tells) (seat : ℕ → ℕ) (alone : List ObjectDeed) →
         Lawful lay (late ++ early) → Worked lay m early late tag seat alone →
         LinesUp (held_at file limits m) (hand_deeds file limits (weave tag late ++ alone)) }
+{}
+
+/// After a round the table has the objects that its deeds left, and each thread has what the last of its own deeds left.
+pub fn round_law()
+    ensures objects { (lay : Layout) (m : State (Stamped Hand) Object) (early late : Past)
+        (tag : Tags (Stamped Hand) (Unit {0}) Tells) (seat : ℕ → ℕ) (alone : List ObjectDeed) (k : ℕ) →
+        Lawful lay (late ++ early) → Worked lay m early late tag seat alone → k < objects_of lay →
+        (turns_of lay k (late ++ early)).value ≡ Some ((left_after m (weave tag late ++ alone)).value k) }
+    ensures threads { (lay : Layout) (m : State (Stamped Hand) Object) (early late : Past)
+        (tag : Tags (Stamped Hand) (Unit {0}) Tells) (seat : ℕ → ℕ) (alone : List ObjectDeed) (t : ℕ) →
+        Worked lay m early late tag seat alone →
+        (left_after m (weave tag late ++ alone)).local t
+        ≡ last_local (m.local t) (first_deeds (tag (seat t)) (length (log_of (seat t) late)) ++ of_thread t alone) }
+{}
+
+/// Rounds at the table are rounds of what its objects keep, with the eras that the desk begins between them.
+pub fn rounds_law()
+    ensures { (file : List ℕ) (limits : Limits) (lay : Layout) (round era base : ℕ) (m : State (Stamped Hand) Object) (rs : List TableRound) →
+        AreTableRounds file limits lay round era base m rs →
+        AreHandRounds file limits round era base (held_at file limits m) (map (hand_round file limits) rs) }
+{}
+
+/// From a new table on, the entries of all rounds, as they are listed by their stamps, are a faithful history of threads that run at
+/// once. Their checks are those of the accesses, and store by the rule, whatever words were loaded.
+pub fn history_law()
+    ensures faithful { (file : List ℕ) (limits : Limits) (lay : Layout) (m : State (Stamped Hand) Object) (rs : List TableRound) →
+        AreWatcherLimits limits → AreFirstObjects file limits m → image_of file ≡ Ok file → AreTableRounds file limits lay 0 0 0 m rs →
+        IsFaithful AtOnce (bare_of file limits.harts) (all_entries (entries_listed rs)) }
+    ensures checks { (file : List ℕ) (limits : Limits) (lay : Layout) (m : State (Stamped Hand) Object) (rs : List TableRound) →
+        AreWatcherLimits limits → AreFirstObjects file limits m → image_of file ≡ Ok file → AreTableRounds file limits lay 0 0 0 m rs →
+        let entries = all_entries (entries_listed rs) in
+        AreAllChecks limits.epochs (granule_of file) entries (moments entries) }
+    ensures stores { (file : List ℕ) (limits : Limits) (lay : Layout) (m : State (Stamped Hand) Object) (rs : List TableRound) →
+        AreWatcherLimits limits → AreFirstObjects file limits m → image_of file ≡ Ok file → AreTableRounds file limits lay 0 0 0 m rs →
+        AllStoreRightly (moments (all_entries (entries_listed rs))) }
 {}

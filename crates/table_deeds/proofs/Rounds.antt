@@ -1,0 +1,140 @@
+-- Rounds at the table are rounds of what its objects keep.
+use Rattle.std.proofs.Common.{◌≡◌, ℕ, ◌+◌, Bool, true, false, cond, List, [], ◌∷◌, refl, sym, ap, subst, ◌∙◌}
+use Rattle.std.specs.Prelude.{map, take}
+use mathlib.Core.Path.{fun_ext}
+use mathlib.Core.Logic.{dite}
+use native.Mathlib.Decide.{ℕ_discrete}
+use Rattle.run_record.specs.declared.limits.Limits.{Limits}
+use Rattle.run_record.specs.declared.entry.Entry.{Entry}
+use Rattle.bare_machine.specs.Step.{desk}
+use Rattle.turn_orders.specs.Lists.{Each}
+use Rattle.turn_orders.specs.Machine.{State}
+use Rattle.turn_orders.specs.LineUp.{Stamped, with_stamp, plain}
+use Rattle.turn_orders.proofs.Members.{each_append}
+use Rattle.turn_orders.proofs.Functions.{but_here, but_else}
+use Rattle.slot_desk.specs.Desks.{ThreadContents, lives_of}
+use Rattle.slot_desk.specs.Steps.{forgotten, after_reset}
+use Rattle.shared_table.specs.declared.object.DeskState.{DeskState}
+use Rattle.shared_table.specs.declared.object.Object.{Object}
+use Rattle.shared_table.specs.declared.object.Object.TheVariants.{Stripe, Desk}
+use Rattle.shared_table.specs.declared.view.Layout.{Layout}
+use Rattle.hart_steps.specs.Desks.{desk_value}
+use Rattle.woven_turns.specs.Weave.{weave}
+use Rattle.woven_turns.specs.Following.{left_after}
+use Rattle.woven_turns.proofs.Weaving.{woven_each, round_line}
+use Rattle.placed_detector.specs.Standing.{Hand, Held}
+use Rattle.deed_histories.specs.Lines.{IsHandDeed, entries_of}
+use Rattle.deed_histories.specs.Rounds.{IsHandRound, AreHandRounds, between, hands_after, listed_entries, top}
+use Rattle.table_deeds.specs.Objects.{ObjectDeed, hand_deed, hand_deeds, held_in, held_at}
+use Rattle.table_deeds.specs.Rounds.{TableRound, made_in, hand_round, IsNextDesk, IsNextState, IsTableRound, AreTableRounds, entries_listed}
+use Rattle.table_deeds.proofs.Lines.{lines_up, all_left}
+
+lives_kept : (ts : List ThreadContents) → map (λ (t : ThreadContents). t.lives) (map forgotten ts) ≡ map (λ (t : ThreadContents). t.lives) ts
+lives_kept [] = refl
+lives_kept (t ∷ ts) = ap (λ (bs : List Bool). t.lives ∷ bs) (lives_kept ts)
+
+module _ (file : List ℕ) (limits : Limits) where
+  abbrev Objects : Type 0
+  Objects = State (Stamped Hand) Object
+
+  -- what the desk keeps
+  abbrev kept_by : DeskState → Stamped Held
+  kept_by d = with_stamp (record {
+    bare = desk_value d.machine (lives_of d.desk);
+    sync = record { slots = limits.slots; objects = []; spare = 0 };
+    desk = d.desk;
+  }) d.last
+
+  -- what a place has, in an era that begins
+  abbrev in_era : Stamped Held → Stamped Held
+  in_era x = with_stamp (record (x.state) { desk = after_reset x.state.desk }) x.last
+
+  era_kept : (d : DeskState) → kept_by (record d { desk = after_reset d.desk }) ≡ in_era (kept_by d)
+  era_kept d = ap (λ (bs : List Bool). with_stamp (record {
+    bare = desk_value d.machine (take d.desk.made bs);
+    sync = record { slots = limits.slots; objects = []; spare = 0 };
+    desk = after_reset d.desk;
+  }) d.last) (lives_kept d.desk.threads)
+
+  same_desk : (x y : Object) → IsNextDesk false x y → held_in file limits desk y ≡ held_in file limits desk x
+  same_desk (Desk d) (Desk e) q = ap kept_by q
+  same_desk (Desk d) (Stripe s) q = absurd q
+  same_desk (Stripe s) y q = absurd q
+
+  era_desk : (x y : Object) → IsNextDesk true x y → held_in file limits desk y ≡ in_era (held_in file limits desk x)
+  era_desk (Desk d) (Desk e) q = ap kept_by q ∙ era_kept d.value
+  era_desk (Desk d) (Stripe s) q = absurd q
+  era_desk (Stripe s) y q = absurd q
+
+  -- what each place has when the next round begins
+  next_place : (m next : Objects) (stamp : ℕ) (ends : Bool) → IsNextState m next stamp ends → (k : ℕ) →
+      held_in file limits k (next.value k) ≡ (between stamp ends (held_at file limits m)).value k
+  next_place m next stamp false h k = dite (ℕ_discrete k desk)
+      (λ e. subst (λ (j : ℕ). held_in file limits j (next.value j) ≡ held_in file limits j (m.value j)) (sym e)
+      (same_desk (m.value desk) (next.value desk) h.desk_is))
+      (λ ne. ap (held_in file limits k) (h.others k ne))
+  next_place m next stamp true h k =
+      let before : ℕ → Held = (plain (held_at file limits m)).value in
+      let reset : Held = record (before desk) { desk = after_reset (before desk).desk } in
+      dite (ℕ_discrete k desk)
+      (λ e. subst (λ (j : ℕ). held_in file limits j (next.value j) ≡ in_era (held_in file limits j (m.value j))) (sym e)
+      (era_desk (m.value desk) (next.value desk) h.desk_is)
+      ∙ ap (λ (x : Held). with_stamp x (held_in file limits k (m.value k)).last)
+      (subst (λ (j : ℕ). (in_era (held_in file limits j (m.value j))).state ≡ reset) (sym e) refl ∙ sym (but_here before desk k reset e)))
+      (λ ne. ap (held_in file limits k) (h.others k ne)
+      ∙ ap (λ (x : Held). with_stamp x (held_in file limits k (m.value k)).last) (sym (but_else before desk k reset ne)))
+
+  next_thread : (m next : Objects) (stamp : ℕ) (ends : Bool) → IsNextState m next stamp ends → (t : ℕ) →
+      next.local t ≡ (between stamp ends (held_at file limits m)).local t
+  next_thread m next stamp false h t = h.threads t
+  next_thread m next stamp true h t = h.threads t
+
+  next_held : (m next : Objects) (stamp : ℕ) (ends : Bool) → IsNextState m next stamp ends →
+      held_at file limits next ≡ between stamp ends (held_at file limits m)
+  next_held m next stamp ends h =
+      ap (λ (f : ℕ → Stamped Hand). record { local = f; value = (held_at file limits next).value }) (fun_ext (next_thread m next stamp ends h))
+      ∙ ap (λ (f : ℕ → Stamped Held). record { local = (between stamp ends (held_at file limits m)).local; value = f })
+      (fun_ext (next_place m next stamp ends h))
+
+  module _ (lay : Layout) where
+    each_hand : (era : ℕ) (ds : List ObjectDeed) → Each (λ (d : ObjectDeed). IsHandDeed file limits era (hand_deed file limits d)) ds →
+        Each (IsHandDeed file limits era) (hand_deeds file limits ds)
+    each_hand era [] h = tt
+    each_hand era (d ∷ ds) h = (h.0, each_hand era ds h.1)
+
+    one_round : (round era : ℕ) (m : Objects) (r : TableRound) → IsTableRound file limits lay round era m r →
+        IsHandRound file limits round era (held_at file limits m) (hand_round file limits r)
+    one_round round era m r h = record {
+      threads = h.threads;
+      places = h.places;
+      line = lines_up file limits m (made_in r) (round_line r.tag lay m r.early r.late r.seat r.alone h.worked h.lawful);
+      deeds = each_hand era (made_in r) (each_append (λ (d : ObjectDeed). IsHandDeed file limits era (hand_deed file limits d)) (weave r.tag r.late) r.alone
+          (woven_each r.tag (λ (d : ObjectDeed). IsHandDeed file limits era (hand_deed file limits d)) r.late h.deeds) h.last_deeds);
+      permuted = h.permuted;
+      sorted = h.sorted;
+      inside = h.inside;
+      parts = h.parts;
+      begun = λ ends t. ap (λ (c : State (Stamped Hand) (Stamped Held)). (c.local t).state.given) (all_left file limits m (made_in r)) ∙ h.begun ends t;
+    }
+
+    -- the state in which the next round begins
+    onward : (m : Objects) (r : TableRound) → IsNextState (left_after m (made_in r)) r.next (top (hand_round file limits r)) r.ends →
+        held_at file limits r.next ≡ hands_after (held_at file limits m) (hand_round file limits r)
+    onward m r h = next_held (left_after m (made_in r)) r.next (top (hand_round file limits r)) r.ends h
+        ∙ ap (between (top (hand_round file limits r)) r.ends) (sym (all_left file limits m (made_in r)))
+
+    pub all_rounds : (rs : List TableRound) (round era base : ℕ) (m : Objects) → AreTableRounds file limits lay round era base m rs →
+        AreHandRounds file limits round era base (held_at file limits m) (map (hand_round file limits) rs)
+    all_rounds [] round era base m h = tt
+    all_rounds (r ∷ rs) round era base m h = (
+      h.0,
+      one_round round era m r h.1,
+      subst (λ (c : State (Stamped Hand) (Stamped Held)).
+          AreHandRounds file limits (round + 1) (cond r.ends (era + 1) era) (top (hand_round file limits r)) c (map (hand_round file limits) rs))
+          (onward m r h.1.onward)
+          (all_rounds rs (round + 1) (cond r.ends (era + 1) era) (top (hand_round file limits r)) r.next h.2),
+    )
+
+pub same_entries : (file : List ℕ) (limits : Limits) (rs : List TableRound) → listed_entries (map (hand_round file limits) rs) ≡ entries_listed rs
+same_entries file limits [] = refl
+same_entries file limits (r ∷ rs) = ap (λ (es : List (List Entry)). entries_of r.listed ∷ es) (same_entries file limits rs)
