@@ -2,3 +2,4 @@ pub mod First
 pub mod Lines
 pub mod Left
 pub mod Rounds
+pub mod Opening
