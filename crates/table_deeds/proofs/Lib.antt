@@ -3,3 +3,4 @@ pub mod Lines
 pub mod Left
 pub mod Rounds
 pub mod Opening
+pub mod Listing

@@ -10,8 +10,11 @@
 //! table has after it, and cites `history_law`.
 #![tactic(auto)]
 
-ghost use Rattle.std.specs.Prelude.{◌≡◌, ℕ, ◌<◌, Bool, List, [], ◌∷◌, ◌++◌, length, map, Some, Ok};
+ghost use Rattle.std.specs.Prelude.{◌≡◌, ℕ, ◌<◌, Bool, IsPermutation, List, [], ◌∷◌, ◌++◌, length, map, Some, Ok};
+ghost use Rattle.run_record.specs.declared.entry.Entry.{Entry};
 ghost use Rattle.run_record.specs.declared.limits.Limits.{Limits};
+ghost use Rattle.run_record.specs.Order.{AreOrdered, entries_in};
+ghost use Rattle.turn_orders.specs.Lists.{Each, In};
 ghost use Rattle.elf_image.specs.File.{image_of, granule_of};
 ghost use Rattle.run_laws.specs.Moments.{moments};
 ghost use Rattle.run_laws.specs.Checks.{AreAllChecks, AllStoreRightly};
@@ -31,9 +34,10 @@ ghost use Rattle.woven_turns.specs.Weave.{Tags, LinesUp, weave, first_deeds, Wor
 ghost use Rattle.woven_turns.specs.Following.{left_after};
 ghost use Rattle.placed_detector.specs.Standing.{Hand};
 ghost use Rattle.placed_detector.specs.First.{first_hand};
-ghost use Rattle.deed_histories.specs.Lines.{Tells};
+ghost use Rattle.deed_histories.specs.Lines.{Tells, HandDeed, IsHandDeed};
 ghost use Rattle.deed_histories.specs.Rounds.{AreHandRounds, AreFirstStamped};
 ghost use Rattle.table_deeds.specs.Objects.{ObjectDeed, hand_deeds, held_at, IsFirstPrivate, AreFirstObjects};
+ghost use Rattle.table_deeds.specs.Listing.{AreApart, logs_of, IsListed};
 ghost use Rattle.table_deeds.specs.Rounds.{TableRound, HasObjects, IsNextState, AreTableRounds, hand_round, entries_listed};
 
 /// What a new table keeps, before any thread has arrived, is what the laws of workers begin with.
@@ -103,4 +107,11 @@ pub fn opening_law()
     ensures between { (lay : Layout) (past : Past) (n i j : ℕ) (found left : Object) (m next : State (Stamped Hand) Object) (stamp : ℕ) (ends : Bool) →
         HasObjects lay past m → IsNextState m next stamp ends → next.value desk ≡ left →
         HasObjects lay ((n, Give desk j found left) ∷ (n, Take desk i) ∷ past) next }
+{}
+
+/// Where each thread's deeds left their entries in a log of its own, the logs as they are merged list the deeds of a round.
+pub fn listing_law()
+    ensures { (file : List ℕ) (limits : Limits) (era : ℕ) (ds : List HandDeed) (threads : List ℕ) (es : List Entry) →
+        Each (IsHandDeed file limits era) ds → AreApart threads → Each (λ (d : HandDeed). In d.call.thread threads) ds →
+        IsPermutation (entries_in (logs_of threads ds)) es → AreOrdered es → IsListed ds es }
 {}
