@@ -46,7 +46,7 @@ module _ {X Y : Type 0} (f : X → Y) where
       ∙ (λ k. set ((map-set f (d ∷ ys) i (get_or (d ∷ ys) j d) ∙ ap (set (map f (d ∷ ys)) i) (sym (get_or-map f (d ∷ ys) j d))) k) j
       (sym (get_or-map f (d ∷ ys) i d) k))
 
-  map_swaps : (xs : List X) (ps : List (ℕ × ℕ)) → map f (apply_swaps xs ps) ≡ apply_swaps (map f xs) ps
+  pub map_swaps : (xs : List X) (ps : List (ℕ × ℕ)) → map f (apply_swaps xs ps) ≡ apply_swaps (map f xs) ps
   map_swaps xs [] = refl
   map_swaps xs (p ∷ ps) = map_swap (apply_swaps xs ps) p.0 p.1 ∙ ap (λ (l : List Y). swap l p.0 p.1) (map_swaps xs ps)
 

@@ -2,3 +2,5 @@ pub mod First
 pub mod Lines
 pub mod Left
 pub mod Rounds
+pub mod Opening
+pub mod Listing

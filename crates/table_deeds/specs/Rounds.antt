@@ -1,5 +1,5 @@
 -- Rounds of deeds at the shared table.
-use Rattle.std.specs.Prelude.{◌≡◌, ◌≢◌, ◌<◌, ◌≤◌, ℕ, ◌+◌, Bool, true, if◌then◌else◌, IsPermutation, List, [], ◌∷◌, ◌++◌, length, map, None}
+use Rattle.std.specs.Prelude.{◌≡◌, ◌≢◌, ◌<◌, ◌≤◌, ℕ, ◌+◌, Bool, true, if◌then◌else◌, IsPermutation, List, [], ◌∷◌, ◌++◌, length, map, None, Some}
 use Rattle.run_record.specs.declared.limits.Limits.{Limits}
 use Rattle.run_record.specs.declared.entry.Entry.{Entry}
 use Rattle.bare_machine.specs.Step.{desk}
@@ -12,7 +12,8 @@ use Rattle.shared_table.specs.declared.object.DeskState.{DeskState}
 use Rattle.shared_table.specs.declared.object.Object.{Object}
 use Rattle.shared_table.specs.declared.object.Object.TheVariants.{Stripe, Desk}
 use Rattle.shared_table.specs.declared.view.Layout.{Layout}
-use Rattle.shared_table.specs.Past.{Past, log_of, Lawful}
+use Rattle.shared_table.specs.Layouts.{objects_of}
+use Rattle.shared_table.specs.Past.{Past, turns_of, log_of, Lawful}
 use Rattle.woven_turns.specs.Weave.{Tags, weave, Worked}
 use Rattle.woven_turns.specs.Following.{left_after}
 use Rattle.placed_detector.specs.Standing.{Hand}
@@ -40,6 +41,10 @@ made_in r = weave r.tag r.late ++ r.alone
 
 abbrev pub hand_round : List ℕ → Limits → TableRound → HandRound
 hand_round file limits r = record { made = hand_deeds file limits (made_in r); listed = r.listed; base = r.base; ends = r.ends }
+
+-- the table has the state's objects after that past
+abbrev pub HasObjects : Layout → Past → State (Stamped Hand) Object → Type 0
+HasObjects lay past m = (k : ℕ) → k < objects_of lay → (turns_of lay k past).value ≡ Some (m.value k)
 
 -- the desk forgets clocks and slots where an era begins
 abbrev pub next_desk : Bool → DeskState → DeskState

@@ -10,8 +10,11 @@
 //! table has after it, and cites `history_law`.
 #![tactic(auto)]
 
-ghost use Rattle.std.specs.Prelude.{◌≡◌, ℕ, ◌<◌, List, ◌++◌, length, map, Some, Ok};
+ghost use Rattle.std.specs.Prelude.{◌≡◌, ℕ, ◌<◌, Bool, IsPermutation, List, [], ◌∷◌, ◌++◌, length, map, Some, Ok};
+ghost use Rattle.run_record.specs.declared.entry.Entry.{Entry};
 ghost use Rattle.run_record.specs.declared.limits.Limits.{Limits};
+ghost use Rattle.run_record.specs.Order.{AreOrdered, entries_in};
+ghost use Rattle.turn_orders.specs.Lists.{Each, In};
 ghost use Rattle.elf_image.specs.File.{image_of, granule_of};
 ghost use Rattle.run_laws.specs.Moments.{moments};
 ghost use Rattle.run_laws.specs.Checks.{AreAllChecks, AllStoreRightly};
@@ -21,17 +24,21 @@ ghost use Rattle.turn_histories.specs.Rounds.{all_entries};
 ghost use Rattle.race_core.specs.Watched.{AreWatcherLimits};
 ghost use Rattle.shared_table.specs.declared.object.Object.{Object};
 ghost use Rattle.shared_table.specs.declared.view.Layout.{Layout};
-ghost use Rattle.shared_table.specs.Layouts.{objects_of};
+ghost use Rattle.bare_machine.specs.Step.{desk};
+ghost use Rattle.shared_table.specs.declared.view.Item.TheVariants.{Take, Give};
+ghost use Rattle.shared_table.specs.Layouts.{objects_of, IsLaidOut};
 ghost use Rattle.shared_table.specs.Past.{Past, turns_of, log_of, Lawful};
 ghost use Rattle.turn_orders.specs.Machine.{State};
-ghost use Rattle.turn_orders.specs.LineUp.{Stamped, of_thread, last_local};
+ghost use Rattle.turn_orders.specs.LineUp.{Stamped, with_stamp, of_thread, last_local};
 ghost use Rattle.woven_turns.specs.Weave.{Tags, LinesUp, weave, first_deeds, Worked};
 ghost use Rattle.woven_turns.specs.Following.{left_after};
 ghost use Rattle.placed_detector.specs.Standing.{Hand};
-ghost use Rattle.deed_histories.specs.Lines.{Tells};
+ghost use Rattle.placed_detector.specs.First.{first_hand};
+ghost use Rattle.deed_histories.specs.Lines.{Tells, HandDeed, IsHandDeed};
 ghost use Rattle.deed_histories.specs.Rounds.{AreHandRounds, AreFirstStamped};
-ghost use Rattle.table_deeds.specs.Objects.{ObjectDeed, hand_deeds, held_at, AreFirstObjects};
-ghost use Rattle.table_deeds.specs.Rounds.{TableRound, AreTableRounds, hand_round, entries_listed};
+ghost use Rattle.table_deeds.specs.Objects.{ObjectDeed, hand_deeds, held_at, IsFirstPrivate, AreFirstObjects};
+ghost use Rattle.table_deeds.specs.Listing.{AreApart, logs_of, IsListed};
+ghost use Rattle.table_deeds.specs.Rounds.{TableRound, HasObjects, IsNextState, AreTableRounds, hand_round, entries_listed};
 
 /// What a new table keeps, before any thread has arrived, is what the laws of workers begin with.
 pub fn first_law()
@@ -89,4 +96,22 @@ pub fn history_law()
     ensures stores { (file : List ℕ) (limits : Limits) (lay : Layout) (m : State (Stamped Hand) Object) (rs : List TableRound) →
         AreWatcherLimits limits → AreFirstObjects file limits m → image_of file ≡ Ok file → AreTableRounds file limits lay 0 0 0 m rs →
         AllStoreRightly (moments (all_entries (entries_listed rs))) }
+{}
+
+/// A table that was laid out for the file has the first objects. What it has when a round begins is what the last round left, but for
+/// the desk, where the opening seat took a turn between them.
+pub fn opening_law()
+    ensures first { (file : List ℕ) (limits : Limits) (lay : Layout) (m : State (Stamped Hand) Object) → IsLaidOut file limits lay →
+        HasObjects lay [] m → ((t : ℕ) → m.local t ≡ with_stamp (first_hand limits t) 0) → ((k : ℕ) → desk < k → IsFirstPrivate limits (m.value k)) →
+        AreFirstObjects file limits m }
+    ensures between { (lay : Layout) (past : Past) (n i j : ℕ) (found left : Object) (m next : State (Stamped Hand) Object) (stamp : ℕ) (ends : Bool) →
+        HasObjects lay past m → IsNextState m next stamp ends → next.value desk ≡ left →
+        HasObjects lay ((n, Give desk j found left) ∷ (n, Take desk i) ∷ past) next }
+{}
+
+/// Where each thread's deeds left their entries in a log of its own, the logs as they are merged list the deeds of a round.
+pub fn listing_law()
+    ensures { (file : List ℕ) (limits : Limits) (era : ℕ) (ds : List HandDeed) (threads : List ℕ) (es : List Entry) →
+        Each (IsHandDeed file limits era) ds → AreApart threads → Each (λ (d : HandDeed). In d.call.thread threads) ds →
+        IsPermutation (entries_in (logs_of threads ds)) es → AreOrdered es → IsListed ds es }
 {}
