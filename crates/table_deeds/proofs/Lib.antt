@@ -4,3 +4,4 @@ pub mod Left
 pub mod Rounds
 pub mod Opening
 pub mod Listing
+pub mod Parts

@@ -84,7 +84,7 @@ module _ (file : List ℕ) (limits : Limits) (era : ℕ) where
   its_thread t k found left place_found place_left e acts (Leaves label at leaves same tells) = tells.thread
   its_thread t k found left place_found place_left e acts (Makes xs made tells) = tells.thread
 
-  thread_of_deed : (d : HandDeed) → IsHandDeed file limits era d → d.told.entry.tid ≡ d.call.thread
+  pub thread_of_deed : (d : HandDeed) → IsHandDeed file limits era d → d.told.entry.tid ≡ d.call.thread
   thread_of_deed d h =
       its_thread d.call.thread d.call.place d.local_found.state d.local_left.state d.found.state d.left.state d.told.entry d.told.acts h.deed
 

@@ -29,15 +29,15 @@ ghost use Rattle.shared_table.specs.declared.view.Item.TheVariants.{Take, Give};
 ghost use Rattle.shared_table.specs.Layouts.{objects_of, IsLaidOut};
 ghost use Rattle.shared_table.specs.Past.{Past, turns_of, log_of, Lawful};
 ghost use Rattle.turn_orders.specs.Machine.{State};
-ghost use Rattle.turn_orders.specs.LineUp.{Stamped, with_stamp, of_thread, last_local};
+ghost use Rattle.turn_orders.specs.LineUp.{Stamped, with_stamp, of_thread, last_local, IsSorted};
 ghost use Rattle.woven_turns.specs.Weave.{Tags, LinesUp, weave, first_deeds, Worked};
 ghost use Rattle.woven_turns.specs.Following.{left_after};
-ghost use Rattle.placed_detector.specs.Standing.{Hand};
+ghost use Rattle.placed_detector.specs.Standing.{Hand, Held};
 ghost use Rattle.placed_detector.specs.First.{first_hand};
 ghost use Rattle.deed_histories.specs.Lines.{Tells, HandDeed, IsHandDeed};
-ghost use Rattle.deed_histories.specs.Rounds.{AreHandRounds, AreFirstStamped};
+ghost use Rattle.deed_histories.specs.Rounds.{AreHandRounds, AreFirstStamped, PartsEnd, hand_stamp};
 ghost use Rattle.table_deeds.specs.Objects.{ObjectDeed, hand_deeds, held_at, IsFirstPrivate, AreFirstObjects};
-ghost use Rattle.table_deeds.specs.Listing.{AreApart, logs_of, IsListed};
+ghost use Rattle.table_deeds.specs.Listing.{AreApart, logs_of, IsListed, EndsAlone};
 ghost use Rattle.table_deeds.specs.Rounds.{TableRound, HasObjects, IsNextState, AreTableRounds, hand_round, entries_listed};
 
 /// What a new table keeps, before any thread has arrived, is what the laws of workers begin with.
@@ -114,4 +114,11 @@ pub fn listing_law()
     ensures { (file : List ℕ) (limits : Limits) (era : ℕ) (ds : List HandDeed) (threads : List ℕ) (es : List Entry) →
         Each (IsHandDeed file limits era) ds → AreApart threads → Each (λ (d : HandDeed). In d.call.thread threads) ds →
         IsPermutation (entries_in (logs_of threads ds)) es → AreOrdered es → IsListed ds es }
+{}
+
+/// Where a thread's deed that uses no object is its last one of the round, it is so as the round is listed.
+pub fn parts_law()
+    ensures { (file : List ℕ) (limits : Limits) (era : ℕ) (c : State (Stamped Hand) (Stamped Held)) (made listed : List HandDeed) →
+        LinesUp c made → Each (IsHandDeed file limits era) made → ((t : ℕ) → EndsAlone (of_thread t made)) → IsPermutation made listed →
+        IsSorted hand_stamp listed → PartsEnd listed }
 {}
