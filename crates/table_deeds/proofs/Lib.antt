@@ -1,6 +1,7 @@
 pub mod First
 pub mod Lines
 pub mod Left
-pub mod Rounds
 pub mod Opening
 pub mod Listing
+pub mod Parts
+pub mod Rounds

@@ -3,7 +3,8 @@ use Rattle.std.proofs.Common.{◌≡◌, ◌≢◌, ◌<◌, ℕ, suc, List, [],
 use Rattle.std.specs.Prelude.{◌==◌, flat_map, IsPermutation, AllPairs, slice_index_or}
 use Rattle.std.specs.List.Sorted.{apply_swaps, SwapsInRange}
 use Rattle.std.proofs.lemmas.List.{map-append, length-map}
-use Rattle.std.proofs.lemmas.List.Sorted.{IsPermutation-refl, IsPermutation-sym, IsPermutation-trans, IsPermutation-cons, IsPermutation-append_right, IsPermutation-middle}
+use Rattle.std.proofs.lemmas.List.Sorted.{IsPermutation-refl, IsPermutation-sym, IsPermutation-trans}
+use Rattle.std.proofs.lemmas.List.Sorted.{IsPermutation-cons, IsPermutation-append_right, IsPermutation-middle}
 use Rattle.run_record.specs.declared.entry.Entry.{Entry}
 use Rattle.run_record.specs.declared.limits.Limits.{Limits}
 use Rattle.run_record.specs.Order.{Precedes, AreOrdered, entries_in}
@@ -56,7 +57,8 @@ in_its_part d ds (t ∷ ts) (inr i) o =
 all_parts : (ts : List ℕ) (ds : List HandDeed) → AreApart ts → Each (λ (d : HandDeed). In d.call.thread ts) ds → IsPermutation ds (parts ts ds)
 all_parts ts [] o h = subst (λ (xs : List HandDeed). IsPermutation [] xs) (sym (no_parts ts)) (IsPermutation-refl [])
 all_parts ts (d ∷ ds) o h =
-    IsPermutation-trans (d ∷ ds) (d ∷ parts ts ds) (parts ts (d ∷ ds)) (IsPermutation-cons d ds (parts ts ds) (all_parts ts ds o h.1)) (in_its_part d ds ts h.0 o)
+    IsPermutation-trans (d ∷ ds) (d ∷ parts ts ds) (parts ts (d ∷ ds)) (IsPermutation-cons d ds (parts ts ds) (all_parts ts ds o h.1))
+    (in_its_part d ds ts h.0 o)
 
 entries_in_parts : (ts : List ℕ) (ds : List HandDeed) → entries_in (logs_of ts ds) ≡ entries_of (parts ts ds)
 entries_in_parts [] ds = refl
@@ -84,7 +86,7 @@ module _ (file : List ℕ) (limits : Limits) (era : ℕ) where
   its_thread t k found left place_found place_left e acts (Leaves label at leaves same tells) = tells.thread
   its_thread t k found left place_found place_left e acts (Makes xs made tells) = tells.thread
 
-  thread_of_deed : (d : HandDeed) → IsHandDeed file limits era d → d.told.entry.tid ≡ d.call.thread
+  pub thread_of_deed : (d : HandDeed) → IsHandDeed file limits era d → d.told.entry.tid ≡ d.call.thread
   thread_of_deed d h =
       its_thread d.call.thread d.call.place d.local_found.state d.local_left.state d.found.state d.left.state d.told.entry d.told.acts h.deed
 

@@ -1,5 +1,5 @@
 -- Rounds at the table are rounds of what its objects keep.
-use Rattle.std.proofs.Common.{◌≡◌, ℕ, ◌+◌, Bool, true, false, cond, List, [], ◌∷◌, refl, sym, ap, subst, ◌∙◌}
+use Rattle.std.proofs.Common.{◌≡◌, ℕ, ◌+◌, max, Bool, true, false, cond, List, [], ◌∷◌, refl, sym, ap, ap₂, subst, ◌∙◌}
 use Rattle.std.specs.Prelude.{map, take}
 use mathlib.Core.Path.{fun_ext}
 use mathlib.Core.Logic.{dite}
@@ -9,8 +9,9 @@ use Rattle.run_record.specs.declared.entry.Entry.{Entry}
 use Rattle.bare_machine.specs.Step.{desk}
 use Rattle.turn_orders.specs.Lists.{Each}
 use Rattle.turn_orders.specs.Machine.{State}
-use Rattle.turn_orders.specs.LineUp.{Stamped, with_stamp, plain}
-use Rattle.turn_orders.proofs.Members.{each_append}
+use Rattle.turn_orders.specs.LineUp.{Stamped, with_stamp, plain, greatest}
+use Rattle.turn_orders.proofs.Members.{each_append, at_member, all_members}
+use Rattle.turn_orders.proofs.Permuted.{same_members}
 use Rattle.turn_orders.proofs.Functions.{but_here, but_else}
 use Rattle.slot_desk.specs.Desks.{ThreadContents, lives_of}
 use Rattle.slot_desk.specs.Steps.{forgotten, after_reset}
@@ -22,12 +23,15 @@ use Rattle.hart_steps.specs.Desks.{desk_value}
 use Rattle.woven_turns.specs.Weave.{weave}
 use Rattle.woven_turns.specs.Following.{left_after}
 use Rattle.woven_turns.proofs.Weaving.{woven_each, round_line}
+use Rattle.turn_histories.specs.Rounds.{IsIn}
 use Rattle.placed_detector.specs.Standing.{Hand, Held}
-use Rattle.deed_histories.specs.Lines.{IsHandDeed, entries_of}
-use Rattle.deed_histories.specs.Rounds.{IsHandRound, AreHandRounds, between, hands_after, listed_entries, top}
+use Rattle.deed_histories.specs.Lines.{HandDeed, IsHandDeed, entries_of}
+use Rattle.deed_histories.specs.Rounds.{HandRound, IsHandRound, AreHandRounds, between, hands_after, hand_stamp, top}
 use Rattle.table_deeds.specs.Objects.{ObjectDeed, hand_deed, hand_deeds, held_in, held_at}
-use Rattle.table_deeds.specs.Rounds.{TableRound, made_in, hand_round, IsNextDesk, IsNextState, IsTableRound, AreTableRounds, entries_listed}
+use Rattle.table_deeds.specs.Rounds.{TableRound, made_in, hands_in, greatest_in, last_stamp, IsNextDesk, IsNextState, IsTableRound, AreTableRounds, AreKept}
 use Rattle.table_deeds.proofs.Lines.{lines_up, all_left}
+use Rattle.table_deeds.proofs.Listing.{listing}
+use Rattle.table_deeds.proofs.Parts.{parts_of_listed}
 
 lives_kept : (ts : List ThreadContents) → map (λ (t : ThreadContents). t.lives) (map forgotten ts) ≡ map (λ (t : ThreadContents). t.lives) ts
 lives_kept [] = refl
@@ -102,39 +106,74 @@ module _ (file : List ℕ) (limits : Limits) where
     each_hand era [] h = tt
     each_hand era (d ∷ ds) h = (h.0, each_hand era ds h.1)
 
-    one_round : (round era : ℕ) (m : Objects) (r : TableRound) → IsTableRound file limits lay round era m r →
-        IsHandRound file limits round era (held_at file limits m) (hand_round file limits r)
-    one_round round era m r h = record {
-      threads = h.threads;
-      places = h.places;
-      line = lines_up file limits m (made_in r) (round_line r.tag lay m r.early r.late r.seat r.alone h.worked h.lawful);
-      deeds = each_hand era (made_in r) (each_append (λ (d : ObjectDeed). IsHandDeed file limits era (hand_deed file limits d)) (weave r.tag r.late) r.alone
-          (woven_each r.tag (λ (d : ObjectDeed). IsHandDeed file limits era (hand_deed file limits d)) r.late h.deeds) h.last_deeds);
-      permuted = h.permuted;
-      sorted = h.sorted;
-      inside = h.inside;
-      parts = h.parts;
-      begun = λ ends t. ap (λ (c : State (Stamped Hand) (Stamped Held)). (c.local t).state.given) (all_left file limits m (made_in r)) ∙ h.begun ends t;
-    }
+    -- the round as the laws of workers have it
+    pub record OneRound (round era : ℕ) (m : Objects) (r : TableRound) : Type 0 where
+      it : HandRound
+      base_is : it.base ≡ r.base
+      ends_is : it.ends ≡ r.ends
+      is_round : IsHandRound file limits round era (held_at file limits m) it
+      entries : entries_of it.listed ≡ r.entries
+      top_is : top it ≡ last_stamp r
+      after_it : hands_after (held_at file limits m) it ≡ held_at file limits r.next
 
-    -- the state in which the next round begins
-    onward : (m : Objects) (r : TableRound) → IsNextState (left_after m (made_in r)) r.next (top (hand_round file limits r)) r.ends →
-        held_at file limits r.next ≡ hands_after (held_at file limits m) (hand_round file limits r)
-    onward m r h = next_held (left_after m (made_in r)) r.next (top (hand_round file limits r)) r.ends h
-        ∙ ap (between (top (hand_round file limits r)) r.ends) (sym (all_left file limits m (made_in r)))
+    greatest_same : (era : ℕ) (ds : List HandDeed) → Each (IsHandDeed file limits era) ds → greatest hand_stamp ds ≡ greatest_in (entries_of ds)
+    greatest_same era [] h = refl
+    greatest_same era (d ∷ ds) h =
+        ap (λ (n : ℕ). max n (greatest hand_stamp ds)) (sym h.0.entry_stamp) ∙ ap (max d.told.entry.stamp) (greatest_same era ds h.1)
+
+    one_round : (round era : ℕ) (m : Objects) (r : TableRound) → IsTableRound file limits lay round era m r → OneRound round era m r
+    one_round round era m r h =
+        let made = hands_in file limits r in
+        let line = lines_up file limits m (made_in r) (round_line r.tag lay m r.early r.late r.seat r.alone h.worked h.lawful) in
+        let is_deed = λ (d : ObjectDeed). IsHandDeed file limits era (hand_deed file limits d) in
+        let woven = woven_each r.tag is_deed r.late h.deeds in
+        let deeds = each_hand era (made_in r) (each_append is_deed (weave r.tag r.late) r.alone woven h.last_deeds) in
+        let l = listing file limits era made r.workers r.entries deeds h.apart h.known h.merged h.ordered in
+        let it : HandRound = record { made = made; listed = l.listed; base = r.base; ends = r.ends } in
+        let each = all_members (IsHandDeed file limits era) l.listed
+        (λ d i. at_member (IsHandDeed file limits era) d made deeds ((same_members made l.listed l.permuted d).1 i)) in
+        let top_is : top it ≡ last_stamp r = ap (max r.base) (greatest_same era l.listed each ∙ ap greatest_in l.entries) in
+        record {
+          it = it;
+          base_is = refl;
+          ends_is = refl;
+          is_round = record {
+            threads = h.threads;
+            places = h.places;
+            line = line;
+            deeds = deeds;
+            permuted = l.permuted;
+            sorted = l.sorted;
+            inside = subst (Each (IsIn round era)) (sym l.entries) h.inside;
+            parts = parts_of_listed file limits era (held_at file limits m) made line deeds h.parts l.listed l.permuted l.sorted;
+            begun = λ ends t. ap (λ (c : State (Stamped Hand) (Stamped Held)). (c.local t).state.given) (all_left file limits m (made_in r)) ∙ h.begun ends t;
+          };
+          entries = l.entries;
+          top_is = top_is;
+          after_it =
+              ap (λ (n : ℕ). between n r.ends (left_after (held_at file limits m) made)) top_is
+              ∙ (ap (between (last_stamp r) r.ends) (all_left file limits m (made_in r))
+              ∙ sym (next_held (left_after m (made_in r)) r.next (last_stamp r) r.ends h.onward));
+        }
 
     pub all_rounds : (rs : List TableRound) (round era base : ℕ) (m : Objects) → AreTableRounds file limits lay round era base m rs →
-        AreHandRounds file limits round era base (held_at file limits m) (map (hand_round file limits) rs)
-    all_rounds [] round era base m h = tt
-    all_rounds (r ∷ rs) round era base m h = (
-      h.0,
-      one_round round era m r h.1,
-      subst (λ (c : State (Stamped Hand) (Stamped Held)).
-          AreHandRounds file limits (round + 1) (cond r.ends (era + 1) era) (top (hand_round file limits r)) c (map (hand_round file limits) rs))
-          (onward m r h.1.onward)
-          (all_rounds rs (round + 1) (cond r.ends (era + 1) era) (top (hand_round file limits r)) r.next h.2),
-    )
-
-pub same_entries : (file : List ℕ) (limits : Limits) (rs : List TableRound) → listed_entries (map (hand_round file limits) rs) ≡ entries_listed rs
-same_entries file limits [] = refl
-same_entries file limits (r ∷ rs) = ap (λ (es : List (List Entry)). entries_of r.listed ∷ es) (same_entries file limits rs)
+        AreKept file limits round era base m rs
+    all_rounds [] round era base m h = record { rounds = []; are = tt; entries = refl }
+    all_rounds (r ∷ rs) round era base m h =
+        let one = one_round round era m r h.1 in
+        let others = all_rounds rs (round + 1) (cond r.ends (era + 1) era) (last_stamp r) r.next h.2 in
+        let rest : AreHandRounds file limits (round + 1) (cond r.ends (era + 1) era) (top one.it) (hands_after (held_at file limits m) one.it) others.rounds =
+        subst (λ (c : State (Stamped Hand) (Stamped Held)).
+        AreHandRounds file limits (round + 1) (cond r.ends (era + 1) era) (top one.it) c others.rounds) (sym one.after_it)
+        (subst (λ (n : ℕ). AreHandRounds file limits (round + 1) (cond r.ends (era + 1) era) n (held_at file limits r.next) others.rounds)
+        (sym one.top_is) others.are) in
+        record {
+          rounds = one.it ∷ others.rounds;
+          are = (
+            one.base_is ∙ h.0,
+            one.is_round,
+            subst (λ (b : Bool). AreHandRounds file limits (round + 1) (cond b (era + 1) era) (top one.it)
+                (hands_after (held_at file limits m) one.it) others.rounds) (sym one.ends_is) rest,
+          );
+          entries = ap₂ (λ (es : List Entry) (ess : List (List Entry)). es ∷ ess) one.entries others.entries;
+        }

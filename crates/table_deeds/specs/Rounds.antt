@@ -1,11 +1,12 @@
 -- Rounds of deeds at the shared table.
-use Rattle.std.specs.Prelude.{◌≡◌, ◌≢◌, ◌<◌, ◌≤◌, ℕ, ◌+◌, Bool, true, if◌then◌else◌, IsPermutation, List, [], ◌∷◌, ◌++◌, length, map, None, Some}
+use Rattle.std.specs.Prelude.{◌≡◌, ◌≢◌, ◌<◌, ◌≤◌, ℕ, ◌+◌, max, Bool, true, if◌then◌else◌, IsPermutation, List, [], ◌∷◌, ◌++◌, length, map, None, Some}
 use Rattle.run_record.specs.declared.limits.Limits.{Limits}
 use Rattle.run_record.specs.declared.entry.Entry.{Entry}
 use Rattle.bare_machine.specs.Step.{desk}
-use Rattle.turn_orders.specs.Lists.{Each}
+use Rattle.run_record.specs.Order.{AreOrdered, entries_in}
+use Rattle.turn_orders.specs.Lists.{Each, In}
 use Rattle.turn_orders.specs.Machine.{State}
-use Rattle.turn_orders.specs.LineUp.{Stamped, with_stamp, IsSorted}
+use Rattle.turn_orders.specs.LineUp.{Stamped, with_stamp, of_thread}
 use Rattle.turn_histories.specs.Rounds.{IsIn}
 use Rattle.slot_desk.specs.Steps.{after_reset}
 use Rattle.shared_table.specs.declared.object.DeskState.{DeskState}
@@ -17,20 +18,22 @@ use Rattle.shared_table.specs.Past.{Past, turns_of, log_of, Lawful}
 use Rattle.woven_turns.specs.Weave.{Tags, weave, Worked}
 use Rattle.woven_turns.specs.Following.{left_after}
 use Rattle.placed_detector.specs.Standing.{Hand}
-use Rattle.deed_histories.specs.Lines.{Tells, HandDeed, IsHandDeed, entries_of}
-use Rattle.deed_histories.specs.Rounds.{HandRound, PartsEnd, hand_stamp, top}
-use Rattle.table_deeds.specs.Objects.{ObjectDeed, hand_deed, hand_deeds, last_in}
+use Rattle.deed_histories.specs.Lines.{Tells, HandDeed, IsHandDeed}
+use Rattle.deed_histories.specs.Rounds.{HandRound, AreHandRounds, listed_entries}
+use Rattle.table_deeds.specs.Objects.{ObjectDeed, hand_deed, hand_deeds, last_in, held_at}
+use Rattle.table_deeds.specs.Listing.{AreApart, logs_of, EndsAlone}
 
 -- A round at the table: the past before it and its own, what the seats tell of their items, which seat a thread has, the deeds that
--- used no object, all deeds as they are listed, the greatest stamp before it, whether an era begins after it, and what threads and
--- the table have when the next one begins.
+-- used no object, the threads whose workers left logs, the entries as these are merged, the greatest stamp before it, whether an
+-- era begins after it, and what threads and the table have when the next one begins.
 pub record TableRound : Type 0 where
   pub early : Past
   pub late : Past
   pub tag : Tags (Stamped Hand) (Unit {0}) Tells
   pub seat : ℕ → ℕ
   pub alone : List ObjectDeed
-  pub listed : List HandDeed
+  pub workers : List ℕ
+  pub entries : List Entry
   pub base : ℕ
   pub ends : Bool
   pub next : State (Stamped Hand) Object
@@ -39,8 +42,17 @@ pub record TableRound : Type 0 where
 abbrev pub made_in : TableRound → List ObjectDeed
 made_in r = weave r.tag r.late ++ r.alone
 
-abbrev pub hand_round : List ℕ → Limits → TableRound → HandRound
-hand_round file limits r = record { made = hand_deeds file limits (made_in r); listed = r.listed; base = r.base; ends = r.ends }
+-- and as the laws of workers have them
+abbrev pub hands_in : List ℕ → Limits → TableRound → List HandDeed
+hands_in file limits r = hand_deeds file limits (made_in r)
+
+-- the greatest stamp of entries, or 0; and the greatest one up to the round's end
+abbrev pub greatest_in : List Entry → ℕ
+greatest_in [] = 0
+greatest_in (e ∷ es) = max e.stamp (greatest_in es)
+
+abbrev pub last_stamp : TableRound → ℕ
+last_stamp r = max r.base (greatest_in r.entries)
 
 -- the table has the state's objects after that past
 abbrev pub HasObjects : Layout → Past → State (Stamped Hand) Object → Type 0
@@ -62,8 +74,8 @@ pub record IsNextState (m next : State (Stamped Hand) Object) (stamp : ℕ) (end
   pub desk_is : IsNextDesk ends (m.value desk) (next.value desk)
 
 -- A round from this state on, of that number and era. Each thread has the greatest stamp so far, and no place has a greater one.
--- Workers tell their deeds along its past; listed, these are sorted by stamp and then by thread. Where an era begins after the
--- round, no thread keeps what it was given.
+-- Workers tell their deeds along its past, and leave the entries of these in logs, which are merged by stamp and then by thread.
+-- A deed that uses no object ends its thread's part. Where an era begins after the round, no thread keeps what it was given.
 pub record IsTableRound (file : List ℕ) (limits : Limits) (lay : Layout) (round era : ℕ) (m : State (Stamped Hand) Object) (r : TableRound) : Type 0 where
   pub threads : (t : ℕ) → (m.local t).last ≡ r.base
   pub places : (k : ℕ) → last_in (m.value k) ≤ r.base
@@ -71,20 +83,28 @@ pub record IsTableRound (file : List ℕ) (limits : Limits) (lay : Layout) (roun
   pub worked : Worked lay m r.early r.late r.tag r.seat r.alone
   pub deeds : (n j : ℕ) → j < length (log_of n r.late) → Each (λ (d : ObjectDeed). IsHandDeed file limits era (hand_deed file limits d)) (r.tag n j)
   pub last_deeds : Each (λ (d : ObjectDeed). IsHandDeed file limits era (hand_deed file limits d)) r.alone
-  pub permuted : IsPermutation (hand_deeds file limits (made_in r)) r.listed
-  pub sorted : IsSorted hand_stamp r.listed
-  pub inside : Each (IsIn round era) (entries_of r.listed)
-  pub parts : PartsEnd r.listed
+  pub apart : AreApart r.workers
+  pub known : Each (λ (d : HandDeed). In d.call.thread r.workers) (hands_in file limits r)
+  pub merged : IsPermutation (entries_in (logs_of r.workers (hands_in file limits r))) r.entries
+  pub ordered : AreOrdered r.entries
+  pub inside : Each (IsIn round era) r.entries
+  pub parts : (t : ℕ) → EndsAlone (of_thread t (hands_in file limits r))
   pub begun : r.ends ≡ true → (t : ℕ) → ((left_after m (made_in r)).local t).state.given ≡ None
-  pub onward : IsNextState (left_after m (made_in r)) r.next (top (hand_round file limits r)) r.ends
+  pub onward : IsNextState (left_after m (made_in r)) r.next (last_stamp r) r.ends
 
 -- rounds one after another
 abbrev pub AreTableRounds : List ℕ → Limits → Layout → ℕ → ℕ → ℕ → State (Stamped Hand) Object → List TableRound → Type 0
 AreTableRounds file limits lay round era base m [] = Unit {0}
 AreTableRounds file limits lay round era base m (r ∷ rs) =
     (r.base ≡ base) × IsTableRound file limits lay round era m r
-    × AreTableRounds file limits lay (round + 1) (if r.ends then era + 1 else era) (top (hand_round file limits r)) r.next rs
+    × AreTableRounds file limits lay (round + 1) (if r.ends then era + 1 else era) (last_stamp r) r.next rs
 
--- the entries of each round, as they are listed
-abbrev pub entries_listed : List TableRound → List (List Entry)
-entries_listed rs = map (λ (r : TableRound). entries_of r.listed) rs
+-- the entries of each round
+abbrev pub entries_by_round : List TableRound → List (List Entry)
+entries_by_round rs = map (λ (r : TableRound). r.entries) rs
+
+-- rounds of what the objects keep, with the same entries
+pub record AreKept (file : List ℕ) (limits : Limits) (round era base : ℕ) (m : State (Stamped Hand) Object) (rs : List TableRound) : Type 0 where
+  pub rounds : List HandRound
+  pub are : AreHandRounds file limits round era base (held_at file limits m) rounds
+  pub entries : listed_entries rounds ≡ entries_by_round rs

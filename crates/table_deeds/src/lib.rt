@@ -10,7 +10,7 @@
 //! table has after it, and cites `history_law`.
 #![tactic(auto)]
 
-ghost use Rattle.std.specs.Prelude.{◌≡◌, ℕ, ◌<◌, Bool, IsPermutation, List, [], ◌∷◌, ◌++◌, length, map, Some, Ok};
+ghost use Rattle.std.specs.Prelude.{◌≡◌, ℕ, ◌<◌, Bool, IsPermutation, List, [], ◌∷◌, ◌++◌, length, Some, Ok};
 ghost use Rattle.run_record.specs.declared.entry.Entry.{Entry};
 ghost use Rattle.run_record.specs.declared.limits.Limits.{Limits};
 ghost use Rattle.run_record.specs.Order.{AreOrdered, entries_in};
@@ -29,16 +29,16 @@ ghost use Rattle.shared_table.specs.declared.view.Item.TheVariants.{Take, Give};
 ghost use Rattle.shared_table.specs.Layouts.{objects_of, IsLaidOut};
 ghost use Rattle.shared_table.specs.Past.{Past, turns_of, log_of, Lawful};
 ghost use Rattle.turn_orders.specs.Machine.{State};
-ghost use Rattle.turn_orders.specs.LineUp.{Stamped, with_stamp, of_thread, last_local};
+ghost use Rattle.turn_orders.specs.LineUp.{Stamped, with_stamp, of_thread, last_local, IsSorted};
 ghost use Rattle.woven_turns.specs.Weave.{Tags, LinesUp, weave, first_deeds, Worked};
 ghost use Rattle.woven_turns.specs.Following.{left_after};
-ghost use Rattle.placed_detector.specs.Standing.{Hand};
+ghost use Rattle.placed_detector.specs.Standing.{Hand, Held};
 ghost use Rattle.placed_detector.specs.First.{first_hand};
 ghost use Rattle.deed_histories.specs.Lines.{Tells, HandDeed, IsHandDeed};
-ghost use Rattle.deed_histories.specs.Rounds.{AreHandRounds, AreFirstStamped};
+ghost use Rattle.deed_histories.specs.Rounds.{AreFirstStamped, PartsEnd, hand_stamp};
 ghost use Rattle.table_deeds.specs.Objects.{ObjectDeed, hand_deeds, held_at, IsFirstPrivate, AreFirstObjects};
-ghost use Rattle.table_deeds.specs.Listing.{AreApart, logs_of, IsListed};
-ghost use Rattle.table_deeds.specs.Rounds.{TableRound, HasObjects, IsNextState, AreTableRounds, hand_round, entries_listed};
+ghost use Rattle.table_deeds.specs.Listing.{AreApart, logs_of, IsListed, EndsAlone};
+ghost use Rattle.table_deeds.specs.Rounds.{TableRound, HasObjects, IsNextState, AreTableRounds, AreKept, entries_by_round};
 
 /// What a new table keeps, before any thread has arrived, is what the laws of workers begin with.
 pub fn first_law()
@@ -79,23 +79,22 @@ pub fn round_law()
 /// Rounds at the table are rounds of what its objects keep, with the eras that the desk begins between them.
 pub fn rounds_law()
     ensures { (file : List ℕ) (limits : Limits) (lay : Layout) (round era base : ℕ) (m : State (Stamped Hand) Object) (rs : List TableRound) →
-        AreTableRounds file limits lay round era base m rs →
-        AreHandRounds file limits round era base (held_at file limits m) (map (hand_round file limits) rs) }
+        AreTableRounds file limits lay round era base m rs → AreKept file limits round era base m rs }
 {}
 
-/// From a new table on, the entries of all rounds, as they are listed by their stamps, are a faithful history of threads that run at
+/// From a new table on, the entries of all rounds, as the workers' logs are merged, are a faithful history of threads that run at
 /// once. Their checks are those of the accesses, and store by the rule, whatever words were loaded.
 pub fn history_law()
     ensures faithful { (file : List ℕ) (limits : Limits) (lay : Layout) (m : State (Stamped Hand) Object) (rs : List TableRound) →
         AreWatcherLimits limits → AreFirstObjects file limits m → image_of file ≡ Ok file → AreTableRounds file limits lay 0 0 0 m rs →
-        IsFaithful AtOnce (bare_of file limits.harts) (all_entries (entries_listed rs)) }
+        IsFaithful AtOnce (bare_of file limits.harts) (all_entries (entries_by_round rs)) }
     ensures checks { (file : List ℕ) (limits : Limits) (lay : Layout) (m : State (Stamped Hand) Object) (rs : List TableRound) →
         AreWatcherLimits limits → AreFirstObjects file limits m → image_of file ≡ Ok file → AreTableRounds file limits lay 0 0 0 m rs →
-        let entries = all_entries (entries_listed rs) in
+        let entries = all_entries (entries_by_round rs) in
         AreAllChecks limits.epochs (granule_of file) entries (moments entries) }
     ensures stores { (file : List ℕ) (limits : Limits) (lay : Layout) (m : State (Stamped Hand) Object) (rs : List TableRound) →
         AreWatcherLimits limits → AreFirstObjects file limits m → image_of file ≡ Ok file → AreTableRounds file limits lay 0 0 0 m rs →
-        AllStoreRightly (moments (all_entries (entries_listed rs))) }
+        AllStoreRightly (moments (all_entries (entries_by_round rs))) }
 {}
 
 /// A table that was laid out for the file has the first objects. What it has when a round begins is what the last round left, but for
@@ -114,4 +113,11 @@ pub fn listing_law()
     ensures { (file : List ℕ) (limits : Limits) (era : ℕ) (ds : List HandDeed) (threads : List ℕ) (es : List Entry) →
         Each (IsHandDeed file limits era) ds → AreApart threads → Each (λ (d : HandDeed). In d.call.thread threads) ds →
         IsPermutation (entries_in (logs_of threads ds)) es → AreOrdered es → IsListed ds es }
+{}
+
+/// Where a thread's deed that uses no object is its last one of the round, it is so as the round is listed.
+pub fn parts_law()
+    ensures { (file : List ℕ) (limits : Limits) (era : ℕ) (c : State (Stamped Hand) (Stamped Held)) (made listed : List HandDeed) →
+        LinesUp c made → Each (IsHandDeed file limits era) made → ((t : ℕ) → EndsAlone (of_thread t made)) → IsPermutation made listed →
+        IsSorted hand_stamp listed → PartsEnd listed }
 {}
