@@ -5,3 +5,4 @@ pub mod Opening
 pub mod Listing
 pub mod Parts
 pub mod Rounds
+pub mod Stamps

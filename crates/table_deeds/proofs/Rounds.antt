@@ -108,12 +108,13 @@ module _ (file : List ℕ) (limits : Limits) where
 
     -- the round as the laws of workers have it
     pub record OneRound (round era : ℕ) (m : Objects) (r : TableRound) : Type 0 where
-      it : HandRound
-      base_is : it.base ≡ r.base
+      pub it : HandRound
+      pub made_is : it.made ≡ hands_in file limits r
+      pub base_is : it.base ≡ r.base
       ends_is : it.ends ≡ r.ends
-      is_round : IsHandRound file limits round era (held_at file limits m) it
+      pub is_round : IsHandRound file limits round era (held_at file limits m) it
       entries : entries_of it.listed ≡ r.entries
-      top_is : top it ≡ last_stamp r
+      pub top_is : top it ≡ last_stamp r
       after_it : hands_after (held_at file limits m) it ≡ held_at file limits r.next
 
     greatest_same : (era : ℕ) (ds : List HandDeed) → Each (IsHandDeed file limits era) ds → greatest hand_stamp ds ≡ greatest_in (entries_of ds)
@@ -121,7 +122,7 @@ module _ (file : List ℕ) (limits : Limits) where
     greatest_same era (d ∷ ds) h =
         ap (λ (n : ℕ). max n (greatest hand_stamp ds)) (sym h.0.entry_stamp) ∙ ap (max d.told.entry.stamp) (greatest_same era ds h.1)
 
-    one_round : (round era : ℕ) (m : Objects) (r : TableRound) → IsTableRound file limits lay round era m r → OneRound round era m r
+    pub one_round : (round era : ℕ) (m : Objects) (r : TableRound) → IsTableRound file limits lay round era m r → OneRound round era m r
     one_round round era m r h =
         let made = hands_in file limits r in
         let line = lines_up file limits m (made_in r) (round_line r.tag lay m r.early r.late r.seat r.alone h.worked h.lawful) in
@@ -135,11 +136,12 @@ module _ (file : List ℕ) (limits : Limits) where
         let top_is : top it ≡ last_stamp r = ap (max r.base) (greatest_same era l.listed each ∙ ap greatest_in l.entries) in
         record {
           it = it;
+          made_is = refl;
           base_is = refl;
           ends_is = refl;
           is_round = record {
-            threads = h.threads;
-            places = h.places;
+            threads = h.stamps.threads;
+            places = h.stamps.places;
             line = line;
             deeds = deeds;
             permuted = l.permuted;

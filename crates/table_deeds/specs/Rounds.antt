@@ -73,12 +73,16 @@ pub record IsNextState (m next : State (Stamped Hand) Object) (stamp : ℕ) (end
   pub others : (k : ℕ) → k ≢ desk → next.value k ≡ m.value k
   pub desk_is : IsNextDesk ends (m.value desk) (next.value desk)
 
+-- each thread has that stamp, and no place has a greater one
+pub record HaveStamps (m : State (Stamped Hand) Object) (stamp : ℕ) : Type 0 where
+  pub threads : (t : ℕ) → (m.local t).last ≡ stamp
+  pub places : (k : ℕ) → last_in (m.value k) ≤ stamp
+
 -- A round from this state on, of that number and era. Each thread has the greatest stamp so far, and no place has a greater one.
 -- Workers tell their deeds along its past, and leave the entries of these in logs, which are merged by stamp and then by thread.
 -- A deed that uses no object ends its thread's part. Where an era begins after the round, no thread keeps what it was given.
 pub record IsTableRound (file : List ℕ) (limits : Limits) (lay : Layout) (round era : ℕ) (m : State (Stamped Hand) Object) (r : TableRound) : Type 0 where
-  pub threads : (t : ℕ) → (m.local t).last ≡ r.base
-  pub places : (k : ℕ) → last_in (m.value k) ≤ r.base
+  pub stamps : HaveStamps m r.base
   pub lawful : Lawful lay (r.late ++ r.early)
   pub worked : Worked lay m r.early r.late r.tag r.seat r.alone
   pub deeds : (n j : ℕ) → j < length (log_of n r.late) → Each (λ (d : ObjectDeed). IsHandDeed file limits era (hand_deed file limits d)) (r.tag n j)

@@ -38,7 +38,8 @@ ghost use Rattle.deed_histories.specs.Lines.{Tells, HandDeed, IsHandDeed};
 ghost use Rattle.deed_histories.specs.Rounds.{AreFirstStamped, PartsEnd, hand_stamp};
 ghost use Rattle.table_deeds.specs.Objects.{ObjectDeed, hand_deeds, held_at, IsFirstPrivate, AreFirstObjects};
 ghost use Rattle.table_deeds.specs.Listing.{AreApart, logs_of, IsListed, EndsAlone};
-ghost use Rattle.table_deeds.specs.Rounds.{TableRound, HasObjects, IsNextState, AreTableRounds, AreKept, entries_by_round};
+ghost use Rattle.table_deeds.specs.Rounds.{TableRound, HasObjects, IsNextState, HaveStamps, IsTableRound, AreTableRounds};
+ghost use Rattle.table_deeds.specs.Rounds.{AreKept, last_stamp, entries_by_round};
 
 /// What a new table keeps, before any thread has arrived, is what the laws of workers begin with.
 pub fn first_law()
@@ -120,4 +121,10 @@ pub fn parts_law()
     ensures { (file : List ℕ) (limits : Limits) (era : ℕ) (c : State (Stamped Hand) (Stamped Held)) (made listed : List HandDeed) →
         LinesUp c made → Each (IsHandDeed file limits era) made → ((t : ℕ) → EndsAlone (of_thread t made)) → IsPermutation made listed →
         IsSorted hand_stamp listed → PartsEnd listed }
+{}
+
+/// After a round each thread has the greatest stamp so far, and no place has a greater one.
+pub fn stamps_law()
+    ensures { (file : List ℕ) (limits : Limits) (lay : Layout) (round era : ℕ) (m : State (Stamped Hand) Object) (r : TableRound) →
+        IsTableRound file limits lay round era m r → HaveStamps r.next (last_stamp r) }
 {}
