@@ -119,7 +119,7 @@ module _ (file : List ℕ) (limits : Limits) (ok : image_of file ≡ Ok file) wh
   record Between (c : Hands) (m : Watched) (stamp era : ℕ) (ends : Bool) : Type 0 where
     world : World
     history : List Moment
-    stands : StandsStamped file limits (between stamp ends c) (watched.between limits.slots stamp ends m) world history
+    stands : StandsStamped file limits (between era stamp ends c) (watched.between limits.slots stamp ends m) world history
     era_is : era_now limits.epochs history ≡ cond ends (era + 1) era
 
   between_stands : (c : Hands) (m : Watched) (w : World) (h : List Moment) (stamp era : ℕ) (ends : Bool) → StandsStamped file limits c m w h →
@@ -198,8 +198,8 @@ module _ (file : List ℕ) (limits : Limits) (ok : image_of file ≡ Ok file) wh
       let same : watched.between limits.slots (top r) r.ends (after turn m (calls one.it.made)) ≡ next_m =
       ap₂ (λ (n : ℕ) (b : Bool). watched.between limits.slots n b (after turn m (calls one.it.made))) (sym one.top_is) (sym one.ends_is) in
       let stands = subst (λ (z : Watched). StandsStamped file limits
-      (hands_after c r) z one.after_it.world one.after_it.history) same one.after_it.stands in
-      let others = follows_rounds rs (hands_after c r) next_m one.after_it.world one.after_it.history (round + 1) (cond r.ends (era + 1) era)
+      (hands_after era c r) z one.after_it.world one.after_it.history) same one.after_it.stands in
+      let others = follows_rounds rs (hands_after era c r) next_m one.after_it.world one.after_it.history (round + 1) (cond r.ends (era + 1) era)
       (top r) stands one.after_it.era_is all.2 in
       record {
         rounds = one.it ∷ others.rounds;

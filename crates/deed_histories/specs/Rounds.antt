@@ -42,18 +42,21 @@ PartsEnd (d ∷ ds) =
     (0 < d.told.entry.steps → desk < d.call.place → Each
     (λ (f : Entry). f.tid ≡ d.told.entry.tid → f.steps ≡ 0) (entries_of ds)) × PartsEnd ds
 
--- what the round leaves for the next one: each thread has the greatest stamp so far, and an era may begin
-abbrev pub in_next_era : Bool → State Hand Held → State Hand Held
-in_next_era ends c = if ends then in_new_era c else c
+-- what a round of that era leaves for the next one: each thread has the greatest stamp so far, and the next era may begin
+abbrev pub in_next_era : ℕ → Bool → State Hand Held → State Hand Held
+in_next_era era ends c = if ends then in_new_era (era + 1) c else c
 
-abbrev pub between : ℕ → Bool → State (Stamped Hand) (Stamped Held) → State (Stamped Hand) (Stamped Held)
-between stamp ends c = record {
-  local = λ t. with_stamp ((in_next_era ends (plain c)).local t) stamp;
-  value = λ k. with_stamp ((in_next_era ends (plain c)).value k) (c.value k).last;
+abbrev pub between : ℕ → ℕ → Bool → State (Stamped Hand) (Stamped Held) → State (Stamped Hand) (Stamped Held)
+between era stamp ends c = record {
+  local = λ t. with_stamp ((in_next_era era ends (plain c)).local t) stamp;
+  value = λ k. with_stamp ((in_next_era era ends (plain c)).value k) (c.value k).last;
 }
 
-abbrev pub hands_after : State (Stamped Hand) (Stamped Held) → HandRound → State (Stamped Hand) (Stamped Held)
-hands_after c r = between (top r) r.ends (left_after c r.made)
+abbrev pub hands_after : ℕ → State (Stamped Hand) (Stamped Held) → HandRound → State (Stamped Hand) (Stamped Held)
+hands_after era c r = between era (top r) r.ends (left_after c r.made)
+
+abbrev pub era_after : ℕ → HandRound → ℕ
+era_after era r = if r.ends then era + 1 else era
 
 -- A round from this state on, of that number and era. Each thread has the greatest stamp so far, and no place has a greater one.
 -- The deeds line up as they were made; listed, they are sorted by stamp and then by thread. Where an era begins after the
@@ -76,17 +79,17 @@ abbrev pub AreHandRounds : List ℕ → Limits → ℕ → ℕ → ℕ → State
 AreHandRounds file limits round era base c [] = Unit {0}
 AreHandRounds file limits round era base c (r ∷ rs) =
     (r.base ≡ base) × IsHandRound file limits round era c r
-    × AreHandRounds file limits (round + 1) (if r.ends then era + 1 else era) (top r) (hands_after c r) rs
+    × AreHandRounds file limits (round + 1) (era_after era r) (top r) (hands_after era c r) rs
 
 -- the entries of each round, as they are listed
 abbrev pub listed_entries : List HandRound → List (List Entry)
 listed_entries rs = map (λ (r : HandRound). entries_of r.listed) rs
 
 -- the state after all rounds
-abbrev pub last_hands : State (Stamped Hand) (Stamped Held) → List HandRound → State (Stamped Hand)
+abbrev pub last_hands : ℕ → State (Stamped Hand) (Stamped Held) → List HandRound → State (Stamped Hand)
     (Stamped Held)
-last_hands c [] = c
-last_hands c (r ∷ rs) = last_hands (hands_after c r) rs
+last_hands era c [] = c
+last_hands era c (r ∷ rs) = last_hands (era_after era r) (hands_after era c r) rs
 
 -- The watched machine follows the rounds: it has rounds with the same stamps, their entries as they are listed tell them, and
 -- at the end all that workers and places keep stands in a history.
@@ -100,7 +103,7 @@ pub record FollowsRounds (file : List ℕ) (limits : Limits) (round era base : �
   pub world : World
   pub history : List Moment
   pub stands :
-      StandsStamped file limits (last_hands c rs)
+      StandsStamped file limits (last_hands era c rs)
       (last_made (stamped_turn file limits) (watched.between limits.slots) (λ (l : Stamped Local). l.last)
       (λ (x : Stamped Value). x.last) m rounds) world history
 

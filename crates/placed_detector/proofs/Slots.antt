@@ -7,10 +7,10 @@ use Rattle.run_record.specs.declared.entry.Label.{Label}
 use Rattle.run_record.specs.declared.limits.Limits.{Limits}
 use Rattle.elf_image.specs.File.{image_of}
 use Rattle.run_laws.specs.Moments.{Notes, NewEra, Moment, items}
-use Rattle.run_laws.specs.Labels.{Labels, queue, can_attach}
+use Rattle.run_laws.specs.Labels.{Labels, queue, can_attach, next_labels}
 use Rattle.run_laws.specs.Clocks.{Clocks, Spot, Given, Of, next_clocks, attach_clocks}
 use Rattle.run_laws.specs.Present.{labels_now, clocks_now}
-use Rattle.run_laws.proofs.PresentLaw.{clocks_now-push}
+use Rattle.run_laws.proofs.PresentLaw.{clocks_now-push, labels_now-push}
 use Rattle.bare_machine.specs.World.{World}
 use Rattle.bare_machine.specs.Memory.{stripe}
 use Rattle.bare_machine.specs.Step.{desk}
@@ -32,8 +32,8 @@ use Rattle.watched_turns.proofs.Run.{era_watched}
 use Rattle.slot_desk.specs.Desks.{DeskContents, slot_of, thread_of}
 use Rattle.slot_desk.specs.Steps as desks
 use Rattle.slot_desk.proofs.HistorySlots.{front_is_free}
-use Rattle.race_core.specs.Watched.{labelled, with_clock}
-use Rattle.race_core.specs.History.{era_now}
+use Rattle.race_core.specs.Watched.{labelled, with_clock, in_era}
+use Rattle.race_core.specs.History.{era_now, IsWatcherAt}
 use Rattle.thread_events.specs.Standing.{Stands}
 use Rattle.thread_events.specs.Heard.{IsGiven, kept_attached, kept_left, kept_in_era, leaving_without}
 use Rattle.thread_events.proofs.Longer.{moment-seam, item-seam, length-push}
@@ -41,6 +41,7 @@ use Rattle.thread_events.proofs.Notes.{slotless, nothing_stands, left_stands, at
 use Rattle.placed_detector.specs.Standing.{Hand, Held, kept_of, Standing, left_with}
 use Rattle.placed_detector.specs.Slots.{given_at, TakesSlot, LeavesSlot, in_new_era}
 use Rattle.placed_detector.proofs.Longer.{watched_stays}
+use Rattle.placed_detector.proofs.Eras.{enters}
 use Rattle.placed_detector.proofs.Instructions.{dec, kept_changed, stands_same}
 
 -- ---- a note tells one thing
@@ -326,33 +327,53 @@ module _ (file : List ℕ) (limits : Limits) (ok : image_of file ≡ Ok file) (c
 
 pub era_standing : (file : List ℕ) (limits : Limits) (c : State Hand Held) (m : State Local Value) (w : World) (h : List Moment) (mom : Moment) →
     Standing file limits c m w h → mom.item ≡ NewEra → ((t : ℕ) → (c.local t).given ≡ None) →
-    Standing file limits (in_new_era c) (era_after limits.slots m) w (h ++ mom ∷ [])
+    Standing file limits (in_new_era (era_now limits.epochs h + 1) c) (era_after limits.slots m) w (h ++ mom ∷ [])
 era_standing file limits c m w h mom s is none = record {
   watched = subst (λ (i : ℕ). IsWatched file limits.harts limits.epochs limits.slots w (h ++ mom ∷ []) i (era_after limits.slots m))
       (sym (length-push h mom))
       (era_watched file limits.harts limits.epochs limits.slots w (h ++ mom ∷ []) (length h) m (item-seam h mom ∙ is)
       (watched_stays file limits.harts limits.epochs limits.slots w h (mom ∷ []) m s.watched));
   leaving = λ t. false;
-  kept = stands_same limits stripe (λ t. false) (h ++ mom ∷ []) (kept_in_era (kept_of c)) (kept_of (in_new_era c))
-      (era_stands limits stripe s.leaving h mom (kept_of c) s.kept is)
-      (ap (λ (v : Held). v.desk) (sym (but_here c.value desk desk (record (c.value desk) { desk = desks.after_reset (c.value desk).desk }) refl)))
-      (λ k. objects_by k (dec k desk)) (λ t. refl);
+  kept = record {
+    desk = began.desk;
+    objects = began.objects;
+    object_slots = began.object_slots;
+    watchers = λ t. subst (λ (n : ℕ). IsWatcherAt limits (h ++ mom ∷ []) t (in_era (c.local t).watched n)) era_is
+        (enters limits (h ++ mom ∷ []) t (c.local t).watched (began.watchers t));
+    settled = began.settled;
+    within = began.within;
+  };
   given = λ t told q. absurd (no_given t told q);
   locals = s.locals;
   values = λ k. s.values k ∙ values_by k (dec k desk);
 }
   where
-    objects_by : (k : ℕ) → (k ≡ desk) ⊎ (k ≢ desk) → (c.value k).sync ≡ ((in_new_era c).value k).sync
+    abbrev next : State Hand Held
+    next = in_new_era (era_now limits.epochs h + 1) c
+
+    abbrev reset : State Hand Held
+    reset = record { local = c.local; value = next.value }
+
+    era_is : era_now limits.epochs (h ++ mom ∷ []) ≡ era_now limits.epochs h + 1
+    era_is = ap (λ (l : Labels). l.era) (labels_now-push limits.epochs h mom ∙ ap (next_labels limits.epochs (labels_now limits.epochs h)) is)
+
+    objects_by : (k : ℕ) → (k ≡ desk) ⊎ (k ≢ desk) → (c.value k).sync ≡ (next.value k).sync
     objects_by k (inl q) = ap (λ (j : ℕ). (c.value j).sync) q ∙ ap (λ (v : Held). v.sync)
         (sym (but_here c.value desk k (record (c.value desk) { desk = desks.after_reset (c.value desk).desk }) q))
     objects_by k (inr ne) = ap (λ (v : Held). v.sync) (sym (but_else c.value desk k
         (record (c.value desk) { desk = desks.after_reset (c.value desk).desk }) ne))
 
-    values_by : (k : ℕ) → (k ≡ desk) ⊎ (k ≢ desk) → (c.value k).bare ≡ ((in_new_era c).value k).bare
+    values_by : (k : ℕ) → (k ≡ desk) ⊎ (k ≢ desk) → (c.value k).bare ≡ (next.value k).bare
     values_by k (inl q) = ap (λ (j : ℕ). (c.value j).bare) q ∙ ap (λ (v : Held). v.bare)
         (sym (but_here c.value desk k (record (c.value desk) { desk = desks.after_reset (c.value desk).desk }) q))
     values_by k (inr ne) = ap (λ (v : Held). v.bare) (sym (but_else c.value desk k
         (record (c.value desk) { desk = desks.after_reset (c.value desk).desk }) ne))
+
+    began : Stands limits stripe (λ t. false) (h ++ mom ∷ []) (kept_of reset)
+    began = stands_same limits stripe (λ t. false) (h ++ mom ∷ []) (kept_in_era (kept_of c)) (kept_of reset)
+        (era_stands limits stripe s.leaving h mom (kept_of c) s.kept is)
+        (ap (λ (v : Held). v.desk) (sym (but_here c.value desk desk (record (c.value desk) { desk = desks.after_reset (c.value desk).desk }) refl)))
+        (λ k. objects_by k (dec k desk)) (λ t. refl)
 
     no_given : (t : ℕ) (told : Option (List ℕ)) → (c.local t).given ≡ Some told → ⊥
     no_given t told q = let z = sym (none t) ∙ q in cc

@@ -9,7 +9,7 @@ use Rattle.place_turns.specs.Places as machine
 use Rattle.place_turns.specs.Turns.{arrived}
 use Rattle.slot_desk.specs.Desks.{DeskContents, thread_of}
 use Rattle.slot_desk.specs.Steps as desks
-use Rattle.race_core.specs.Watched.{with_clock, labelled}
+use Rattle.race_core.specs.Watched.{with_clock, labelled, in_era}
 use Rattle.thread_events.specs.Heard.{Attaches, Holds}
 use Rattle.placed_detector.specs.Standing.{Hand, Held}
 
@@ -44,9 +44,14 @@ pub record LeavesSlot (era t : ℕ) (label : Label) (found : Hand) (place_found 
   pub holds : Holds place_found.desk t label
   pub place : place_left ≡ record place_found { desk = desks.after_detach place_found.desk t }
 
--- the desk forgets clocks and slots
-abbrev pub in_new_era : State Hand Held → State Hand Held
-in_new_era c = record c {
+-- the thread goes on in that era, without a label
+abbrev pub hand_in_era : ℕ → Hand → Hand
+hand_in_era era l = record l { watched = in_era l.watched era }
+
+-- where that era begins, the desk forgets clocks and slots, and each thread goes on in it
+abbrev pub in_new_era : ℕ → State Hand Held → State Hand Held
+in_new_era era c = record {
+  local = λ t. hand_in_era era (c.local t);
   value = but c.value desk (record (c.value desk)
       { desk = desks.after_reset (c.value desk).desk });
 }

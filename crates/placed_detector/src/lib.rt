@@ -78,5 +78,5 @@ pub fn note_law()
 pub fn era_law()
     ensures { (file : List ℕ) (limits : Limits) (c : State Hand Held) (m : State Local Value) (w : World) (h : List Moment) (mom : Moment) →
         Standing file limits c m w h → mom.item ≡ NewEra → ((t : ℕ) → (c.local t).given ≡ None) →
-        Standing file limits (in_new_era c) (era_after limits.slots m) w (h ++ mom ∷ []) }
+        Standing file limits (in_new_era (era_now limits.epochs h + 1) c) (era_after limits.slots m) w (h ++ mom ∷ []) }
 {}

@@ -40,10 +40,10 @@ module _ (lay : Layout) where
       ap (λ (b : Bool). (cond b (turns_at (taken.done + 1) (Some left) None) taken).value) (ne_eqb desk k (λ e. ne (sym e)))
       ∙ ap (λ (b : Bool). (cond b (turns_at st.done st.value (Some n)) st).value) (ne_eqb desk k (λ e. ne (sym e)))
 
-  pub between : (past : Past) (n i j : ℕ) (found left : Object) (m next : State (Stamped Hand) Object) (stamp : ℕ) (ends : Bool) →
-      HasObjects lay past m → IsNextState m next stamp ends → next.value desk ≡ left →
+  pub between : (past : Past) (n i j : ℕ) (found left : Object) (m next : State (Stamped Hand) Object) (era stamp : ℕ) (ends : Bool) →
+      HasObjects lay past m → IsNextState m next era stamp ends → next.value desk ≡ left →
       HasObjects lay ((n, Give desk j found left) ∷ (n, Take desk i) ∷ past) next
-  between past n i j found left m next stamp ends has h is k below = dite (ℕ_discrete k desk)
+  between past n i j found left m next era stamp ends has h is k below = dite (ℕ_discrete k desk)
       (λ e. subst (λ (p : ℕ). (turns_of lay p ((n, Give desk j found left) ∷ (n, Take desk i) ∷ past)).value ≡ Some (next.value p)) (sym e)
       (ap Some (sym is)))
       (λ ne. after_turn past n i j found left k ne ∙ (has k below ∙ ap Some (sym (h.others k ne))))

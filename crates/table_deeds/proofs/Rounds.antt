@@ -71,13 +71,13 @@ module _ (file : List ℕ) (limits : Limits) where
   era_desk (Stripe s) y q = absurd q
 
   -- what each place has when the next round begins
-  next_place : (m next : Objects) (stamp : ℕ) (ends : Bool) → IsNextState m next stamp ends → (k : ℕ) →
-      held_in file limits k (next.value k) ≡ (between stamp ends (held_at file limits m)).value k
-  next_place m next stamp false h k = dite (ℕ_discrete k desk)
+  next_place : (m next : Objects) (era stamp : ℕ) (ends : Bool) → IsNextState m next era stamp ends → (k : ℕ) →
+      held_in file limits k (next.value k) ≡ (between era stamp ends (held_at file limits m)).value k
+  next_place m next era stamp false h k = dite (ℕ_discrete k desk)
       (λ e. subst (λ (j : ℕ). held_in file limits j (next.value j) ≡ held_in file limits j (m.value j)) (sym e)
       (same_desk (m.value desk) (next.value desk) h.desk_is))
       (λ ne. ap (held_in file limits k) (h.others k ne))
-  next_place m next stamp true h k =
+  next_place m next era stamp true h k =
       let before : ℕ → Held = (plain (held_at file limits m)).value in
       let reset : Held = record (before desk) { desk = after_reset (before desk).desk } in
       dite (ℕ_discrete k desk)
@@ -88,17 +88,17 @@ module _ (file : List ℕ) (limits : Limits) where
       (λ ne. ap (held_in file limits k) (h.others k ne)
       ∙ ap (λ (x : Held). with_stamp x (held_in file limits k (m.value k)).last) (sym (but_else before desk k reset ne)))
 
-  next_thread : (m next : Objects) (stamp : ℕ) (ends : Bool) → IsNextState m next stamp ends → (t : ℕ) →
-      next.local t ≡ (between stamp ends (held_at file limits m)).local t
-  next_thread m next stamp false h t = h.threads t
-  next_thread m next stamp true h t = h.threads t
+  next_thread : (m next : Objects) (era stamp : ℕ) (ends : Bool) → IsNextState m next era stamp ends → (t : ℕ) →
+      next.local t ≡ (between era stamp ends (held_at file limits m)).local t
+  next_thread m next era stamp false h t = h.threads t
+  next_thread m next era stamp true h t = h.threads t
 
-  next_held : (m next : Objects) (stamp : ℕ) (ends : Bool) → IsNextState m next stamp ends →
+  next_held : (m next : Objects) (era stamp : ℕ) (ends : Bool) → IsNextState m next era stamp ends →
       held_at file limits next ≡ between stamp ends (held_at file limits m)
-  next_held m next stamp ends h =
-      ap (λ (f : ℕ → Stamped Hand). record { local = f; value = (held_at file limits next).value }) (fun_ext (next_thread m next stamp ends h))
-      ∙ ap (λ (f : ℕ → Stamped Held). record { local = (between stamp ends (held_at file limits m)).local; value = f })
-      (fun_ext (next_place m next stamp ends h))
+  next_held m next era stamp ends h =
+      ap (λ (f : ℕ → Stamped Hand). record { local = f; value = (held_at file limits next).value }) (fun_ext (next_thread m next era stamp ends h))
+      ∙ ap (λ (f : ℕ → Stamped Held). record { local = (between era stamp ends (held_at file limits m)).local; value = f })
+      (fun_ext (next_place m next era stamp ends h))
 
   module _ (lay : Layout) where
     each_hand : (era : ℕ) (ds : List ObjectDeed) → Each (λ (d : ObjectDeed). IsHandDeed file limits era (hand_deed file limits d)) ds →
@@ -115,7 +115,7 @@ module _ (file : List ℕ) (limits : Limits) where
       pub is_round : IsHandRound file limits round era (held_at file limits m) it
       entries : entries_of it.listed ≡ r.entries
       pub top_is : top it ≡ last_stamp r
-      after_it : hands_after (held_at file limits m) it ≡ held_at file limits r.next
+      after_it : hands_after era (held_at file limits m) it ≡ held_at file limits r.next
 
     greatest_same : (era : ℕ) (ds : List HandDeed) → Each (IsHandDeed file limits era) ds → greatest hand_stamp ds ≡ greatest_in (entries_of ds)
     greatest_same era [] h = refl
@@ -153,9 +153,9 @@ module _ (file : List ℕ) (limits : Limits) where
           entries = l.entries;
           top_is = top_is;
           after_it =
-              ap (λ (n : ℕ). between n r.ends (left_after (held_at file limits m) made)) top_is
-              ∙ (ap (between (last_stamp r) r.ends) (all_left file limits m (made_in r))
-              ∙ sym (next_held (left_after m (made_in r)) r.next (last_stamp r) r.ends h.onward));
+              ap (λ (n : ℕ). between era n r.ends (left_after (held_at file limits m) made)) top_is
+              ∙ (ap (between era (last_stamp r) r.ends) (all_left file limits m (made_in r))
+              ∙ sym (next_held (left_after m (made_in r)) r.next era (last_stamp r) r.ends h.onward));
         }
 
     pub all_rounds : (rs : List TableRound) (round era base : ℕ) (m : Objects) → AreTableRounds file limits lay round era base m rs →
@@ -164,7 +164,7 @@ module _ (file : List ℕ) (limits : Limits) where
     all_rounds (r ∷ rs) round era base m h =
         let one = one_round round era m r h.1 in
         let others = all_rounds rs (round + 1) (cond r.ends (era + 1) era) (last_stamp r) r.next h.2 in
-        let rest : AreHandRounds file limits (round + 1) (cond r.ends (era + 1) era) (top one.it) (hands_after (held_at file limits m) one.it) others.rounds =
+        let rest : AreHandRounds file limits (round + 1) (cond r.ends (era + 1) era) (top one.it) (hands_after era (held_at file limits m) one.it) others.rounds =
         subst (λ (c : State (Stamped Hand) (Stamped Held)).
         AreHandRounds file limits (round + 1) (cond r.ends (era + 1) era) (top one.it) c others.rounds) (sym one.after_it)
         (subst (λ (n : ℕ). AreHandRounds file limits (round + 1) (cond r.ends (era + 1) era) n (held_at file limits r.next) others.rounds)
@@ -175,7 +175,7 @@ module _ (file : List ℕ) (limits : Limits) where
             one.base_is ∙ h.0,
             one.is_round,
             subst (λ (b : Bool). AreHandRounds file limits (round + 1) (cond b (era + 1) era) (top one.it)
-                (hands_after (held_at file limits m) one.it) others.rounds) (sym one.ends_is) rest,
+                (hands_after era (held_at file limits m) one.it) others.rounds) (sym one.ends_is) rest,
           );
           entries = ap₂ (λ (es : List Entry) (ess : List (List Entry)). es ∷ ess) one.entries others.entries;
         }

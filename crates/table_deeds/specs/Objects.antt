@@ -23,9 +23,9 @@ abbrev pub part_in : List ℕ → ℕ → Object → Value
 part_in file k (Stripe s) = if nat_lt k desk then stripe_value file k s.value.words s.value.reserved else of_nobody
 part_in file k (Desk d) = desk_value d.value.machine (lives_of d.value.desk)
 
--- the synchronisation objects of a stripe; the desk has none
+-- The synchronisation objects of a stripe, whatever room there is for more; the desk has none.
 abbrev pub sync_in : Limits → Object → SyncObjects
-sync_in limits (Stripe s) = s.value.sync
+sync_in limits (Stripe s) = record s.value.sync { spare = 0 }
 sync_in limits (Desk d) = record { slots = limits.slots; objects = []; spare = 0 }
 
 -- the slots and clocks at the desk; of a stripe nobody asks for them

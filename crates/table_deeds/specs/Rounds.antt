@@ -18,6 +18,7 @@ use Rattle.shared_table.specs.Past.{Past, turns_of, log_of, Lawful}
 use Rattle.woven_turns.specs.Weave.{Tags, weave, Worked}
 use Rattle.woven_turns.specs.Following.{left_after}
 use Rattle.placed_detector.specs.Standing.{Hand}
+use Rattle.placed_detector.specs.Slots.{hand_in_era}
 use Rattle.deed_histories.specs.Lines.{Tells, HandDeed, IsHandDeed}
 use Rattle.deed_histories.specs.Rounds.{HandRound, AreHandRounds, listed_entries}
 use Rattle.table_deeds.specs.Objects.{ObjectDeed, hand_deed, hand_deeds, last_in, held_at}
@@ -67,9 +68,13 @@ IsNextDesk ends (Desk d) (Desk e) = e.value ≡ next_desk ends d.value
 IsNextDesk ends (Desk d) (Stripe s) = ⊥
 IsNextDesk ends (Stripe s) y = ⊥
 
--- what the next round begins with: each thread has the greatest stamp so far, and an era may begin at the desk
-pub record IsNextState (m next : State (Stamped Hand) Object) (stamp : ℕ) (ends : Bool) : Type 0 where
-  pub threads : (t : ℕ) → next.local t ≡ with_stamp (m.local t).state stamp
+-- what a thread goes on with after a round of that era: the same, or in the next era, without a label
+abbrev pub next_hand : ℕ → Bool → Hand → Hand
+next_hand era ends l = if ends then hand_in_era (era + 1) l else l
+
+-- what the round after one of that era begins with: each thread has the greatest stamp so far, and the next era may begin
+pub record IsNextState (m next : State (Stamped Hand) Object) (era stamp : ℕ) (ends : Bool) : Type 0 where
+  pub threads : (t : ℕ) → next.local t ≡ with_stamp (next_hand era ends (m.local t).state) stamp
   pub others : (k : ℕ) → k ≢ desk → next.value k ≡ m.value k
   pub desk_is : IsNextDesk ends (m.value desk) (next.value desk)
 
@@ -94,7 +99,7 @@ pub record IsTableRound (file : List ℕ) (limits : Limits) (lay : Layout) (roun
   pub inside : Each (IsIn round era) r.entries
   pub parts : (t : ℕ) → EndsAlone (of_thread t (hands_in file limits r))
   pub begun : r.ends ≡ true → (t : ℕ) → ((left_after m (made_in r)).local t).state.given ≡ None
-  pub onward : IsNextState (left_after m (made_in r)) r.next (last_stamp r) r.ends
+  pub onward : IsNextState (left_after m (made_in r)) r.next era (last_stamp r) r.ends
 
 -- rounds one after another
 abbrev pub AreTableRounds : List ℕ → Limits → Layout → ℕ → ℕ → ℕ → State (Stamped Hand) Object → List TableRound → Type 0

@@ -104,8 +104,8 @@ pub fn opening_law()
     ensures first { (file : List ℕ) (limits : Limits) (lay : Layout) (m : State (Stamped Hand) Object) → IsLaidOut file limits lay →
         HasObjects lay [] m → ((t : ℕ) → m.local t ≡ with_stamp (first_hand limits t) 0) → ((k : ℕ) → desk < k → IsFirstPrivate limits (m.value k)) →
         AreFirstObjects file limits m }
-    ensures between { (lay : Layout) (past : Past) (n i j : ℕ) (found left : Object) (m next : State (Stamped Hand) Object) (stamp : ℕ) (ends : Bool) →
-        HasObjects lay past m → IsNextState m next stamp ends → next.value desk ≡ left →
+    ensures between { (lay : Layout) (past : Past) (n i j : ℕ) (found left : Object) (m next : State (Stamped Hand) Object) (era stamp : ℕ) (ends : Bool) →
+        HasObjects lay past m → IsNextState m next era stamp ends → next.value desk ≡ left →
         HasObjects lay ((n, Give desk j found left) ∷ (n, Take desk i) ∷ past) next }
 {}
 
