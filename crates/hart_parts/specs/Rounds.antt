@@ -1,6 +1,6 @@
 -- Rounds of parts at the shared table.
 use Rattle.std.specs.Prelude.{◌≡◌, ◌⊎◌, ◌<◌, ◌≤◌, ◌+◌, ◌-◌, ℕ, Bool, if◌then◌else◌, IsPermutation, List, [], ◌∷◌, ◌++◌, length, map, flat_map, slice_get, Option, None, Some}
-use Rattle.std.specs.Prelude.{nat_lt, nat_le, ◌&&◌}
+use Rattle.std.specs.Prelude.{nat_lt, ◌==◌}
 use mathlib.Core.Option.{some}
 use lib.ListN.{get_elem?}
 use Rattle.run_record.specs.declared.limits.Limits.{Limits}
