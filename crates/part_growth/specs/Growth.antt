@@ -1,0 +1,161 @@
+-- How a part of a round grows: instructions are gathered, and become a deed with the turn of an object.
+use Rattle.std.specs.Prelude.{◌≡◌, ◌≢◌, ◌<◌, ◌≤◌, ◌+◌, ◌⊎◌, max, ℕ, true, List, [], ◌∷◌, ◌++◌, length, sum_by, Option, None, Some}
+use Rattle.std.specs.List.{AllZip, flat_map}
+use Rattle.run_record.specs.declared.limits.Limits.{Limits}
+use Rattle.run_record.specs.declared.event.Event.{Event}
+use Rattle.run_record.specs.declared.entry.Check.{Check}
+use Rattle.run_record.specs.declared.entry.Entry.{Entry}
+use Rattle.run_record.specs.declared.entry.Label.{Label}
+use Rattle.run_record.specs.declared.entry.DeskNote.TheVariants.{Nothing, Attach, Leave}
+use Rattle.bare_machine.specs.Step.{desk}
+use Rattle.bare_machine.specs.Preview.{thread_needs}
+use Rattle.turn_orders.specs.Lists.{Each}
+use Rattle.turn_orders.specs.LineUp.{Stamped, with_stamp, LocalsFollow, last_local}
+use Rattle.machine_laws.specs.Events.{is_local}
+use Rattle.run_laws.specs.Labels.{raises}
+use Rattle.race_core.specs.Watched.{Watched}
+use Rattle.place_turns.specs.Places.{Value}
+use Rattle.turn_histories.specs.Entries.{IsAlive, IsPlaceOf, next_object}
+use Rattle.shared_table.specs.declared.object.Object.{Object}
+use Rattle.shared_table.specs.declared.view.Item.TheVariants.{Take, Give}
+use Rattle.shared_table.specs.Past.{Log}
+use Rattle.placed_detector.specs.Standing.{Hand, Held}
+use Rattle.placed_detector.specs.Instructions.{MakesInstruction}
+use Rattle.placed_detector.specs.Slots.{TakesSlot, LeavesSlot}
+use Rattle.deed_histories.specs.Deeds.{Made, all_events, all_checks, AreNumbered, TellsNote}
+use Rattle.deed_histories.specs.Lines.{entries_of, IsHandDeed}
+use Rattle.table_deeds.specs.Objects.{ObjectDeed, hand_deed, hand_deeds, held_in, last_in}
+use Rattle.hart_parts.specs.Parts.{IsStretch, all_touches, after_steps, IsNeedy, SpendsIn}
+
+-- ---- instructions that were gathered
+
+-- how many instructions a thread has made since its last deed, their events, and the checks of these
+pub record Gathered : Type 0 where
+  pub steps : ℕ
+  pub events : List Event
+  pub checks : List Check
+
+abbrev pub nothing_gathered : Gathered
+nothing_gathered = record { steps = 0; events = []; checks = [] }
+
+-- An instruction of thread t that uses no object, whatever place it is at and whatever this has.
+pub record MakesLocal (file : List ℕ) (harts era t : ℕ) (x : Made) (found left : Hand) : Type 0 where
+  pub instruction : (k : ℕ) (held : Held) → MakesInstruction file harts era t k x.loads x.events x.checks found left held held
+  pub alive : IsAlive found.bare
+  pub without_object : next_object file t found.bare.thread ≡ None
+  pub local_events : Each (λ (e : Event). is_local e ≡ true) x.events
+
+-- such instructions, one after another
+abbrev pub AreLocal : List ℕ → ℕ → ℕ → ℕ → List Made → Hand → Hand → Type 0
+AreLocal file harts era t [] found left = found ≡ left
+AreLocal file harts era t (x ∷ xs) found left = (hand : Hand) × MakesLocal file harts era t x found hand × AreLocal file harts era t xs hand left
+
+-- the thread gathered these, from its last deed on
+pub record IsGathered (file : List ℕ) (harts era t : ℕ) (found now : Hand) (g : Gathered) : Type 0 where
+  pub made : List Made
+  pub local : AreLocal file harts era t made found now
+  pub steps : g.steps ≡ length made
+  pub events : g.events ≡ all_events made
+  pub checks : g.checks ≡ flat_map (λ (cs : List Check). cs) (all_checks made)
+  pub numbered : AreNumbered 0 (all_checks made)
+
+-- one more instruction, with these events and the checks of each
+abbrev pub gathered_with : Gathered → List Event → List (List Check) → Gathered
+gathered_with g es css = record { steps = g.steps + 1; events = g.events ++ es; checks = g.checks ++ flat_map (λ (cs : List Check). cs) css }
+
+-- ---- what is owed
+
+-- What a part still owes: nothing; an instruction that needs the slot which was taken; or the leave of a slot that was spent.
+pub data Owing : Type 0 where
+  nothing : Owing
+  needy : Owing
+  leave_of : Label → Owing
+
+-- the deed is one that may come where that is owed
+abbrev pub Meets : List ℕ → Limits → Owing → ObjectDeed → Type 0
+Meets file limits nothing d = (l : Label) → d.told.entry.note ≡ Leave l → ⊥
+Meets file limits needy d = IsNeedy file limits d
+Meets file limits (leave_of l) d = d.told.entry.note ≡ Leave l
+
+-- and this is owed after it
+abbrev pub Owes : Limits → ObjectDeed → Owing → Type 0
+Owes limits d nothing = ((l : Label) → d.told.entry.note ≡ Attach l → ⊥) × ((l : Label) → SpendsIn limits d l → ⊥)
+Owes limits d needy = (l : Label) × (d.told.entry.note ≡ Attach l)
+Owes limits d (leave_of l) = SpendsIn limits d l
+
+-- deeds one after another, where the first is owed and the last owes that
+abbrev pub ArePaid : List ℕ → Limits → Owing → List ObjectDeed → Owing → Type 0
+ArePaid file limits owed [] owing = owed ≡ owing
+ArePaid file limits owed (d ∷ ds) owing =
+    (next : Owing) × Meets file limits owed d × Owes limits d next × (IsNeedy file limits d → d.local_found.state.watched.label ≢ None)
+    × ArePaid file limits next ds owing
+
+-- what is owed after an instruction of the thread in that state, before its events
+abbrev pub IsPaidBy : List ℕ → ℕ → Hand → Owing → Owing → Type 0
+IsPaidBy file t now needy owing = ((owing ≡ needy) × (thread_needs file t now.bare.thread ≢ true)) ⊎ ((owing ≡ nothing) × (thread_needs file t now.bare.thread ≡ true))
+IsPaidBy file t now owed owing = owing ≡ owed
+
+-- ---- needs among what was gathered
+
+-- one of the gathered instructions needs a slot
+pub record NeedsWithin (file : List ℕ) (harts t : ℕ) (found : Hand) (g : Gathered) : Type 0 where
+  pub step : ℕ
+  pub within : step < g.steps
+  pub needs : (v : Value) → thread_needs file t (after_steps file harts t found.bare v step).thread ≡ true
+
+-- what is owed where the deeds owe the first and these instructions were gathered since
+abbrev pub IsOwedWith : List ℕ → ℕ → ℕ → Hand → Gathered → Owing → Owing → Type 0
+IsOwedWith file harts t found g nothing owed = owed ≡ nothing
+IsOwedWith file harts t found g needy owed = (owed ≡ needy) ⊎ ((owed ≡ nothing) × NeedsWithin file harts t found g)
+IsOwedWith file harts t found g (leave_of l) owed = (owed ≡ leave_of l) × (g.steps ≡ 0)
+
+-- what the last of an instruction's events leaves to be owed, where the thread's watcher was that before it: the leave of its slot,
+-- where the event raises the greatest epoch
+pub record SpendsBy (limits : Limits) (w : Watched) (es : List Event) (l : Label) : Type 0 where
+  pub before : List Event
+  pub event : Event
+  pub last : es ≡ before ++ event ∷ []
+  pub raising : raises event ≡ 1
+  pub label : w.label ≡ Some l
+  pub greatest : l.epoch ≡ limits.epochs
+
+abbrev pub IsOwedBy : Limits → Watched → List Event → Owing → Type 0
+IsOwedBy limits w es nothing = (l : Label) → SpendsBy limits w es l → ⊥
+IsOwedBy limits w es needy = ⊥
+IsOwedBy limits w es (leave_of l) = SpendsBy limits w es l
+
+-- ---- a part so far
+
+-- What stands of a part of thread t in that era, which began with `before` and has left this log of its seat and these entries: its
+-- deeds lead to `found`, with that last stamp, and what was gathered since leads to `now`. `owed` is what the deeds and the gathered
+-- instructions still owe.
+pub record SoFar (file : List ℕ) (limits : Limits) (era t : ℕ) (before : Stamped Hand) (log : Log) (entries : List Entry)
+    (found now : Hand) (last : ℕ) (g : Gathered) (owed : Owing) : Type 0 where
+  pub deeds : List ObjectDeed
+  pub stretches : List Log
+  pub mine : Each (λ (d : ObjectDeed). d.call.thread ≡ t) deeds
+  pub at_objects : Each (λ (d : ObjectDeed). d.call.place ≤ desk) deeds
+  pub each : Each (λ (d : ObjectDeed). IsHandDeed file limits era (hand_deed file limits d)) deeds
+  pub follow : LocalsFollow before deeds
+  pub found_is : last_local before deeds ≡ with_stamp found last
+  pub along : AllZip IsStretch deeds stretches
+  pub log_is : log ≡ flat_map (λ (items : Log). items) stretches ++ all_touches g.checks
+  pub entries_are : entries ≡ entries_of (hand_deeds file limits deeds)
+  pub gathered : IsGathered file limits.harts era t found now g
+  -- what the deeds owe, before what was gathered
+  pub owing : Owing
+  pub paid : ArePaid file limits nothing deeds owing
+  pub owed_with : IsOwedWith file limits.harts t found g owing owed
+  pub labelled : NeedsWithin file limits.harts t found g → found.watched.label ≢ None
+
+-- ---- steps
+
+-- the object has this value at place k
+abbrev pub place_in : List ℕ → Limits → ℕ → Object → Held
+place_in file limits k x = (held_in file limits k x).state
+
+-- A turn of the object k with that number, in which the seat made these steps at cells, and which drew that stamp.
+pub record IsTurn (k : ℕ) (old new : Log) (number : ℕ) (touches : Log) (found left : Object) (last stamp : ℕ) : Type 0 where
+  pub log : new ≡ old ++ Take k number ∷ (touches ++ Give k number found left ∷ [])
+  pub stamp_is : stamp ≡ max last (last_in found) + 1
+  pub left_there : last_in left ≡ stamp
