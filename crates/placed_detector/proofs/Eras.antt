@@ -1,5 +1,5 @@
 -- A thread that goes on in an era that has begun.
-use Rattle.std.proofs.Common.{refl, sym, ◌∙◌, ◌≡◌, ◌⊎◌, inl, inr, ℕ, zero, suc, ◌<◌, ◌≤◌, ◌==◌, cond, Bool, true, false, absurd, arith, eq-eqb, List, length, get_or, replicate, None}
+use Rattle.std.proofs.Common.{refl, sym, ◌∙◌, ◌≡◌, ◌⊎◌, inl, inr, ℕ, zero, suc, ◌<◌, ◌≤◌, ◌==◌, cond, Bool, true, false, arith, eq-eqb, List, length, get_or, replicate, None}
 use Rattle.std.proofs.Math.ListN.{length-replicate}
 use Rattle.std.proofs.lemmas.Bool.{cases_lt}
 use Rattle.run_record.specs.declared.limits.Limits.{Limits}

@@ -348,10 +348,10 @@ era_standing file limits c m w h mom s is none = record {
   values = λ k. s.values k ∙ values_by k (dec k desk);
 }
   where
-    abbrev next : State Hand Held
+    next : State Hand Held
     next = in_new_era (era_now limits.epochs h + 1) c
 
-    abbrev reset : State Hand Held
+    reset : State Hand Held
     reset = record { local = c.local; value = next.value }
 
     era_is : era_now limits.epochs (h ++ mom ∷ []) ≡ era_now limits.epochs h + 1
