@@ -25,7 +25,8 @@ use Rattle.turn_histories.specs.Rounds.{IsIn, IsRoundOf, AreRoundsOf}
 use Rattle.race_core.specs.History.{era_now}
 use Rattle.woven_turns.specs.Following.{left_after, deeds_of, call_of}
 use Rattle.turn_orders.specs.Machine.{next}
-use Rattle.placed_detector.specs.Standing.{Hand, Held}
+use Rattle.placed_detector.specs.Standing.{Hand, Held, Standing}
+use Rattle.placed_detector.specs.Slots.{in_new_era}
 use Rattle.placed_detector.proofs.Slots.{era_standing}
 use Rattle.deed_histories.specs.Lines.{HandDeed, acts_of, entries_of, moments_of, IsHandDeed, stamped_turn, StandsStamped, FollowsDeeds}
 use Rattle.deed_histories.specs.Rounds.{HandRound, hand_stamp, top, PartsEnd, between, hands_after, IsHandRound, AreHandRounds, listed_entries, FollowsRounds}
@@ -134,8 +135,8 @@ module _ (file : List ℕ) (limits : Limits) (ok : image_of file ≡ Ok file) wh
     world = w;
     history = h ++ era_moment ∷ [];
     stands = record {
-      standing = era_standing file limits (plain c) (plain m) w h era_moment s.standing refl
-          (none refl);
+      standing = subst (λ (n : ℕ). Standing file limits (in_new_era (n + 1) (plain c)) (plain (watched.between limits.slots stamp true m)) w
+          (h ++ era_moment ∷ [])) is (era_standing file limits (plain c) (plain m) w h era_moment s.standing refl (none refl));
       locals = λ t. refl;
       values = s.values;
     };

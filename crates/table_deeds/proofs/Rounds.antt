@@ -94,7 +94,7 @@ module _ (file : List ℕ) (limits : Limits) where
   next_thread m next era stamp true h t = h.threads t
 
   next_held : (m next : Objects) (era stamp : ℕ) (ends : Bool) → IsNextState m next era stamp ends →
-      held_at file limits next ≡ between stamp ends (held_at file limits m)
+      held_at file limits next ≡ between era stamp ends (held_at file limits m)
   next_held m next era stamp ends h =
       ap (λ (f : ℕ → Stamped Hand). record { local = f; value = (held_at file limits next).value }) (fun_ext (next_thread m next era stamp ends h))
       ∙ ap (λ (f : ℕ → Stamped Held). record { local = (between era stamp ends (held_at file limits m)).local; value = f })
