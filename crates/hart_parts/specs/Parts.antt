@@ -171,7 +171,7 @@ pub record IsNeedy (file : List ℕ) (limits : Limits) (d : ObjectDeed) : Type 0
   pub within : step < d.told.entry.steps
   pub needs :
       thread_needs file d.call.thread
-      (after_steps file limits.harts d.call.thread d.local_found.state.bare (held_in file limits d.call.place d.found).bare step).thread
+      (after_steps file limits.harts d.call.thread d.local_found.state.bare (held_in file limits d.call.place d.found).state.bare step).thread
       ≡ true
 
 -- its last event raises the epoch of its thread's label, which is the greatest, so that the thread loses the label
