@@ -10,5 +10,7 @@
 #![tactic(auto)]
 
 mod check;
+mod hear;
 
 pub use check::check_access;
+pub use hear::Hearing;
