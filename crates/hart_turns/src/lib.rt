@@ -11,6 +11,8 @@
 
 mod check;
 mod hear;
+mod slots;
 
 pub use check::check_access;
 pub use hear::Hearing;
+pub use slots::{ThreadState, leave_slot, take_slot};
