@@ -55,7 +55,7 @@ pub(crate) fn is_ready(watcher: &Watcher, slots: u32, event: &Event) -> bool
 }
 
 // An event that reaches nothing but its thread's stack, locks and trace.
-fn hear_own(watcher: &mut Watcher, event: &Event) -> Result<Hearing, NoMemory>
+pub(crate) fn hear_own(watcher: &mut Watcher, event: &Event) -> Result<Hearing, NoMemory>
     requires alone { IsAlone event.now }
     requires can { CanBeNoted (length watcher.old.frames) event.now }
     requires count { watcher.old.trace.count < 2 ^ 64 - 1 }
@@ -80,7 +80,7 @@ fn is_at(number: u32, event: &Event) -> bool
 }
 
 // An event of a channel, at the stripe that keeps its address.
-fn hear_at_stripe(
+pub(crate) fn hear_at_stripe(
     watcher: &mut Watcher,
     set: &mut SyncSet,
     number: u32,
@@ -119,7 +119,7 @@ fn may_hear(watcher: &Watcher, desk: &Desk, tid: u32, greatest: u16, event: &Eve
 }
 
 // An event of the desk.
-fn hear_desk(
+pub(crate) fn hear_desk(
     watcher: &mut Watcher,
     desk: &mut Desk,
     limits: &Limits,
@@ -145,7 +145,7 @@ fn hear_desk(
 }
 
 // The thread begins with what its creator left for it.
-fn hear_begin(watcher: &mut Watcher, given: &Clock) -> Hearing
+pub(crate) fn hear_begin(watcher: &mut Watcher, given: &Clock) -> Hearing
     requires slots { length watcher.old.clock ≡ length given.now }
     ensures { IsHeard (HearsBegin given.now watcher.old watcher.new) result }
 {
@@ -154,7 +154,7 @@ fn hear_begin(watcher: &mut Watcher, given: &Clock) -> Hearing
 }
 
 // An access, the event of that place in its entry, with its checks.
-fn hear_access(
+pub(crate) fn hear_access(
     shared: &Shared,
     seat: &mut SharedSeat,
     image: &Image<'_>,

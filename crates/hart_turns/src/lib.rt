@@ -10,6 +10,7 @@
 #![tactic(auto)]
 
 mod check;
+mod events;
 mod hear;
 mod slots;
 
