@@ -1,5 +1,8 @@
 -- What was told of an event, as the laws of workers have it.
+use Rattle.std.specs.Global.{Box}
 use Rattle.std.proofs.Common.{◌≡◌, ◌<◌, ℕ, zero, suc, max, Option, Some, None, List, [], ◌∷◌, ◌++◌, length, replicate, append-nil, refl, ap, ap₂, sym, subst, ◌∙◌, arith}
+use Rattle.std.specs.Prelude.{IfOk, Result, Ok, Err}
+use Rattle.run_record.specs.declared.no_memory.NoMemory.{NoMemory}
 use Rattle.run_record.specs.declared.entry.Check.{Check}
 use Rattle.run_record.specs.declared.entry.Label.{Label}
 use Rattle.run_record.specs.declared.event.Event.{Event}
@@ -16,7 +19,9 @@ use Rattle.placed_detector.specs.Instructions.{Beside, HearsEvent, told_in, give
 use Rattle.shared_table.specs.declared.object.Object.{Object}
 use Rattle.shared_table.specs.declared.object.Object.TheVariants.{Stripe, Desk}
 use Rattle.hart_events.specs.Events.{IsAlone, IsOfChannel, IsOfDesk}
-use Rattle.hart_turns.specs.Hearing.{at_rest, IsReady, IsAccess, HearsAlone, HearsBegin, HearsAccess, HearsAtStripe, HearsAtDesk}
+use Rattle.hart_turns.specs.declared.hear.Hearing.{Hearing}
+use Rattle.hart_turns.specs.declared.hear.Hearing.TheVariants.{Heard, Refused}
+use Rattle.hart_turns.specs.Hearing.{IsHeard, at_rest, IsReady, IsAccess, HearsAlone, HearsBegin, HearsAccess, HearsAtStripe, HearsAtDesk}
 use Rattle.run_laws.specs.Accesses.{Access}
 use Rattle.slot_desk.specs.Steps.{new_desk}
 use Rattle.shared_table.specs.declared.object.Stripe.{Stripe as Stripes}
@@ -36,7 +41,7 @@ joined_zeros (x ∷ xs) = ap₂ (λ (y : ℕ) (ys : List ℕ). y ∷ ys) (omega 
 joined_again : (xs ys : List ℕ) → joined xs (joined (replicate (length xs) 0) ys) ≡ joined xs ys
 joined_again [] ys = refl
 joined_again (x ∷ xs) [] = refl
-joined_again (x ∷ xs) (y ∷ ys) = ap (λ (zs : List ℕ). max x y ∷ zs) (joined_again xs ys)
+joined_again (x ∷ xs) (y ∷ ys) = ap₂ (λ (z : ℕ) (zs : List ℕ). max x z ∷ zs) (omega arith) (joined_again xs ys)
 
 -- what was left, taken in by way of an empty clock
 pub joined_given : (slots : ℕ) (clock xs : List ℕ) (told : Option (List ℕ)) → length xs ≡ slots → clock ≡ joined_told (replicate slots 0) told →
@@ -94,9 +99,9 @@ begin_heard k t slots clock w w' spent sync desk given r h g = record {
   keeper = tt;
   at_desk = tt;
   granted = tt;
-  has_given = (g.0, g.1.0);
-  watched = h.watcher sync desk ∙ ap (with_clock (at_rest w)) (joined_given slots clock w.clock g.0 r.clock g.1.1
-      ∙ ap (λ (o : Option (Option (List ℕ))). joined_told w.clock (told_in o)) (sym g.1.0));
+  has_given = (g.0, g.1);
+  watched = h.watcher sync desk ∙ ap (with_clock (at_rest w)) (joined_given slots clock w.clock g.0 r.clock g.2
+      ∙ ap (λ (o : Option (Option (List ℕ))). joined_told w.clock (told_in o)) (sym g.1));
   given = refl;
   objects = refl;
   desk_is = refl;
@@ -177,21 +182,28 @@ quiet file limits k t clock e at w w' place place' checks me spent none heard sp
 }
 
 -- at a stripe
-pub stripe_one : (file : List ℕ) (limits : Limits) (k t : ℕ) (clock : List ℕ) (e : Event) (at : ℕ) (w w' : Watched) (old new : Box Stripes) (checks : List Check) (me : Mine) (spent : Option Label) →
-    IsOfChannel e → IsReady limits.slots w e → HearsAtStripe k e w w' old.value.sync new.value.sync spent →
+pub stripe_one : (file : List ℕ) (limits : Limits) (k t : ℕ) (clock : List ℕ) (e : Event) (at : ℕ) (w w' : Watched) (place : Option Object) (old new : Box Stripes) (checks : List Check) (me : Mine) (spent : Option Label) →
+    place ≡ Some (Stripe old) → IsOfChannel e → IsReady limits.slots w e → HearsAtStripe k e w w' old.value.sync new.value.sync spent →
     new.value.words ≡ old.value.words → new.value.reserved ≡ old.value.reserved → new.value.last ≡ old.value.last →
-    HearsOne file limits k t clock e at w w' (Some (Stripe old)) (Some (Stripe new)) checks checks me me spent
-stripe_one file limits k t clock e at w w' old new checks me spent channel r h words reserved last =
-    quiet file limits k t clock e at w w' (Some (Stripe old)) (Some (Stripe new)) checks me spent (channel_unchecked e channel)
+    HearsOne file limits k t clock e at w w' place (Some (Stripe new)) checks checks me me spent
+stripe_one file limits k t clock e at w w' place old new checks me spent here channel r h words reserved last =
+    subst (λ (o : Option Object). HearsOne file limits k t clock e at w w' o (Some (Stripe new)) checks checks me me spent) (sym here) (quiet file limits k t clock e at w w' (Some (Stripe old)) (Some (Stripe new)) checks me spent (channel_unchecked e channel)
     (λ sync desk given g. stripe_heard k t limits.slots e w w' old.value.sync new.value.sync spent (new_desk limits) given channel r h)
-    h.spent_is (words, reserved, last)
+    h.spent_is (words, reserved, last))
 
 -- at the desk
-pub desk_one : (file : List ℕ) (limits : Limits) (k t : ℕ) (clock : List ℕ) (e : Event) (at : ℕ) (w w' : Watched) (old new : Box DeskState) (checks : List Check) (me : Mine) (spent : Option Label) →
-    IsOfDesk e → k ≡ 64 → IsReady limits.slots w e → HearsAtDesk t e w w' old.value.desk new.value.desk spent →
+pub desk_one : (file : List ℕ) (limits : Limits) (k t : ℕ) (clock : List ℕ) (e : Event) (at : ℕ) (w w' : Watched) (place : Option Object) (old new : Box DeskState) (checks : List Check) (me : Mine) (spent : Option Label) →
+    place ≡ Some (Desk old) → IsOfDesk e → k ≡ 64 → IsReady limits.slots w e → HearsAtDesk t e w w' old.value.desk new.value.desk spent →
     new.value.machine ≡ old.value.machine → new.value.last ≡ old.value.last →
-    HearsOne file limits k t clock e at w w' (Some (Desk old)) (Some (Desk new)) checks checks me me spent
-desk_one file limits k t clock e at w w' old new checks me spent of_desk here r h machine last =
-    quiet file limits k t clock e at w w' (Some (Desk old)) (Some (Desk new)) checks me spent (desk_unchecked e of_desk)
+    HearsOne file limits k t clock e at w w' place (Some (Desk new)) checks checks me me spent
+desk_one file limits k t clock e at w w' place old new checks me spent there of_desk here r h machine last =
+    subst (λ (o : Option Object). HearsOne file limits k t clock e at w w' o (Some (Desk new)) checks checks me me spent) (sym there) (quiet file limits k t clock e at w w' (Some (Desk old)) (Some (Desk new)) checks me spent (desk_unchecked e of_desk)
     (λ sync desk given g. desk_heard k t limits.slots e w w' (record { slots = limits.slots; objects = []; spare = 0 }) old.value.desk new.value.desk spent given of_desk here r h)
-    h.spent_is (machine, last)
+    h.spent_is (machine, last))
+
+-- ---- what a call tells, where it tells something
+
+pub heard_map : (P Q : Option Label → Type 0) (r : Result Hearing NoMemory) → ((spent : Option Label) → P spent → Q spent) → IfOk r (IsHeard P) → IfOk r (IsHeard Q)
+heard_map P Q (Ok (Heard spent)) f h = f spent h
+heard_map P Q (Ok Refused) f h = tt
+heard_map P Q (Err e) f h = tt

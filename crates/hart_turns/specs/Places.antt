@@ -14,8 +14,7 @@ use Rattle.sync_slab.specs.Objects.{SyncObjects}
 use Rattle.race_core.specs.Watched.{Watched}
 use Rattle.shared_table.specs.declared.object.Object.{Object}
 use Rattle.shared_table.specs.declared.object.Object.TheVariants.{Stripe, Desk}
-use Rattle.shared_table.specs.declared.view.Layout.{Layout}
-use Rattle.shared_table.specs.Past.{IsSound}
+use Rattle.shared_table.specs.Past.{IsDeskOf}
 use Rattle.shared_table.specs.Steps.{Mine}
 use Rattle.placed_detector.specs.Instructions.{Beside, HearsEvent, ChecksAccess, given_after}
 use Rattle.hart_events.specs.Events.{lost_after}
@@ -26,10 +25,12 @@ use Rattle.hart_turns.specs.Hearing.{at_rest}
 
 -- ---- places
 
--- an object that was taken is sound; at no object there is nothing to say
-abbrev pub IsPlace : Layout → ℕ → Option Object → Type 0
-IsPlace lay k None = Unit {0}
-IsPlace lay k (Some x) = IsSound lay k x
+-- what an object that was taken has while events are heard there, with those limits: a stripe objects of so many slots, and the
+-- desk is one for the limits
+abbrev pub IsPlace : Limits → ℕ → Option Object → Type 0
+IsPlace limits k None = Unit {0}
+IsPlace limits k (Some (Stripe s)) = s.value.sync.slots ≡ limits.slots
+IsPlace limits k (Some (Desk d)) = (k ≡ 64) × IsDeskOf limits d.value.desk
 
 -- what events read and change there; at no object, whatever a place may have
 abbrev pub sync_at : Limits → SyncObjects → Option Object → SyncObjects

@@ -4,7 +4,6 @@ ghost use Rattle.run_record.specs.declared.entry.Check.{Check};
 ghost use Rattle.elf_image.specs.File.{granules_of};
 ghost use Rattle.shared_table.specs.Seats.{IsSeatOf};
 ghost use Rattle.shared_table.specs.Steps.{Mine};
-ghost use Rattle.shared_table.specs.declared.view.Layout.{Layout};
 ghost use Rattle.hart_events.specs.Events.{IsAlone, IsOfChannel, IsOfDesk};
 ghost use Rattle.hart_turns.specs.Hearing.{IsReady, IsHeard, IsAccess};
 ghost use Rattle.hart_turns.specs.Places.{IsPlace, HearsOne};
@@ -25,11 +24,11 @@ fn hear_channel(
     event: &Event,
 ) -> Result<Hearing, NoMemory>
     requires channel { IsOfChannel event.now }
-    requires sound { (lay : Layout) × (lay.limits ≡ limits.now) × IsPlace lay number place.old }
+    requires place { IsPlace limits.now number place.old }
     requires ready { IsReady limits.now.slots watcher.old event.now }
     ensures heard { IfOk result (IsHeard (λ spent. (file : List ℕ) (t at : ℕ) (clock : List ℕ) (checks : List Check) (me : Mine) →
         HearsOne file limits.now number t clock event.now at watcher.old watcher.new place.old place.new checks checks me me spent)) }
-    ensures sound { (lay : Layout) → lay.limits ≡ limits.now → IsPlace lay number place.old → IsPlace lay number place.new }
+    ensures place { IsPlace limits.now number place.new }
 {
     match place {
         Some(Object::Stripe(stripe)) => hear_at_stripe(watcher, &mut stripe.sync, number, event),
@@ -47,10 +46,11 @@ fn hear_of_desk(
     event: &Event,
 ) -> Result<Hearing, NoMemory>
     requires of_desk { IsOfDesk event.now }
-    requires sound { (lay : Layout) × (lay.limits ≡ limits.now) × IsPlace lay number place.old }
+    requires place { IsPlace limits.now number place.old }
     requires ready { IsReady limits.now.slots watcher.old event.now }
     ensures heard { IfOk result (IsHeard (λ spent. (file : List ℕ) (at : ℕ) (clock : List ℕ) (checks : List Check) (me : Mine) →
         HearsOne file limits.now number tid clock event.now at watcher.old watcher.new place.old place.new checks checks me me spent)) }
+    ensures place { IsPlace limits.now number place.new }
 {
     match place {
         Some(Object::Desk(desk)) => hear_desk(watcher, &mut desk.desk, limits, tid, event),

@@ -88,7 +88,8 @@ pub(crate) fn hear_at_stripe(
 ) -> Result<Hearing, NoMemory>
     requires channel { IsOfChannel event.now }
     requires ready { IsReady set.old.slots watcher.old event.now }
-    ensures { IfOk result (IsHeard (HearsAtStripe number event.now watcher.old watcher.new set.old set.new)) }
+    ensures heard { IfOk result (IsHeard (HearsAtStripe number event.now watcher.old watcher.new set.old set.new)) }
+    ensures slots { set.new.slots ≡ set.old.slots }
 {
     if !is_at(number, event) {
         return Ok(Hearing::Refused);
@@ -130,7 +131,7 @@ pub(crate) fn hear_desk(
     requires ready { IsReady limits.now.slots watcher.old event.now }
     requires desk { IsDeskOf limits.now desk.old }
     ensures heard { IfOk result (IsHeard (HearsAtDesk tid event.now watcher.old watcher.new desk.old desk.new)) }
-    ensures desk { IfOk result (IsHeard (λ spent. IsDeskOf limits.now desk.new)) }
+    ensures desk { IsDeskOf limits.now desk.new }
 {
     if !may_hear(watcher, desk, tid, limits.epochs, event) {
         return Ok(Hearing::Refused);

@@ -3,8 +3,8 @@ use Rattle.sync_slab.specs.Objects.{SyncObjects}
 use Rattle.hart_turns.proofs.Resting.{heard_roomed, objects_roomed, lost_roomed, slots_after}
 use Rattle.hart_turns.proofs.hear.hear_at_stripe.Goals as goal
 
-pub returns : goal.returns
-returns c =
+pub returns-clause-heard : goal.returns-clause-heard
+returns-clause-heard c =
     let kept = c.in_ok-reserve_one.ensures.rest_kept in
     record {
       keeper = let z = c.if-not-is_at.false in c.is_at.ensures (cc);
