@@ -104,10 +104,13 @@ module _ (file : List ℕ) (w : Watched) (e : Event) (place : ℕ) where
   half_end before after old new left a l q r none half = record {
     added = half.added;
     checks_are = half.checks_are;
-    of_access = subst (λ (o : Option Access). ChecksAccess file w o half.added) (sym q)
-        (l, r, zip_parts (ChecksPart w l a) (parts_of (granule_of file) a) half.added
-        (subst (λ (ps : List (ℕ × ℕ)). AllZip (λ (p : ℕ × ℕ) (c : Check). ChecksPart w l a (record { granule = p.0; mask = p.1 }) c) ps half.added)
-        (sym (half.parts a q ∙ (ap (λ (xs : List (ℕ × ℕ)). half.done ++ xs) none ∙ append-nil half.done))) (half.of_parts a l q r)));
+    of_access = subst (λ (o : Option Access). ChecksAccess file w o half.added) (sym q) (
+      l,
+      r,
+      zip_parts (ChecksPart w l a) (parts_of (granule_of file) a) half.added
+          (subst (λ (ps : List (ℕ × ℕ)). AllZip (λ (p : ℕ × ℕ) (c : Check). ChecksPart w l a (record { granule = p.0; mask = p.1 }) c) ps half.added)
+          (sym (half.parts a q ∙ (ap (λ (xs : List (ℕ × ℕ)). half.done ++ xs) none ∙ append-nil half.done))) (half.of_parts a l q r)),
+    );
     stores = half.stores;
     of_event = half.of_event;
     steps = half.steps;

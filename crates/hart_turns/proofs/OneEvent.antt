@@ -30,6 +30,7 @@ use Rattle.shared_table.specs.Steps.{Mine}
 use Rattle.placed_detector.specs.Instructions.{ChecksAccess}
 use Rattle.hart_events.specs.Events.{lost_after}
 use Rattle.hart_turns.specs.Places.{sync_at, slots_at, beside_at, IsGivenAs, SameBare, HearsOne}
+use Rattle.hart_turns.specs.Hearing.{IsQuiet}
 use Rattle.hart_turns.proofs.Checking.{no_items}
 
 -- ---- clocks
@@ -58,28 +59,70 @@ pub alone_heard : (k t slots : ℕ) (e : Event) (w w' : Watched) (spent : Option
     IsAlone e → IsReady slots w e → HearsAlone e w w' spent →
     HearsEvent k t e (record { watched = at_rest w; given = given; sync = sync; desk = desk }) (record { watched = at_rest w'; given = given_after e given; sync = sync; desk = desk })
 alone_heard k t slots (events.Enter frame) w w' spent sync desk given alone r h = record {
-  label = (r.label, r.labelled); keeper = tt; at_desk = tt; granted = tt; has_given = tt;
-  watched = h.watcher (told_in given) sync desk; given = refl; objects = refl; desk_is = refl;
+  label = (r.label, r.labelled);
+  keeper = tt;
+  at_desk = tt;
+  granted = tt;
+  has_given = tt;
+  watched = h.watcher (told_in given) sync desk;
+  given = refl;
+  objects = refl;
+  desk_is = refl;
 }
 alone_heard k t slots events.Leave w w' spent sync desk given alone r h = record {
-  label = (r.label, r.labelled); keeper = tt; at_desk = tt; granted = tt; has_given = tt;
-  watched = h.watcher (told_in given) sync desk; given = refl; objects = refl; desk_is = refl;
+  label = (r.label, r.labelled);
+  keeper = tt;
+  at_desk = tt;
+  granted = tt;
+  has_given = tt;
+  watched = h.watcher (told_in given) sync desk;
+  given = refl;
+  objects = refl;
+  desk_is = refl;
 }
 alone_heard k t slots (events.Lock addr read) w w' spent sync desk given alone r h = record {
-  label = (r.label, r.labelled); keeper = tt; at_desk = tt; granted = tt; has_given = tt;
-  watched = h.watcher (told_in given) sync desk; given = refl; objects = refl; desk_is = refl;
+  label = (r.label, r.labelled);
+  keeper = tt;
+  at_desk = tt;
+  granted = tt;
+  has_given = tt;
+  watched = h.watcher (told_in given) sync desk;
+  given = refl;
+  objects = refl;
+  desk_is = refl;
 }
 alone_heard k t slots (events.Unlock addr read) w w' spent sync desk given alone r h = record {
-  label = (r.label, r.labelled); keeper = tt; at_desk = tt; granted = tt; has_given = tt;
-  watched = h.watcher (told_in given) sync desk; given = refl; objects = refl; desk_is = refl;
+  label = (r.label, r.labelled);
+  keeper = tt;
+  at_desk = tt;
+  granted = tt;
+  has_given = tt;
+  watched = h.watcher (told_in given) sync desk;
+  given = refl;
+  objects = refl;
+  desk_is = refl;
 }
 alone_heard k t slots (events.Access place addr size read atomic) w w' spent sync desk given alone r h = record {
-  label = (r.label, r.labelled); keeper = tt; at_desk = tt; granted = tt; has_given = tt;
-  watched = h.watcher (told_in given) sync desk; given = refl; objects = refl; desk_is = refl;
+  label = (r.label, r.labelled);
+  keeper = tt;
+  at_desk = tt;
+  granted = tt;
+  has_given = tt;
+  watched = h.watcher (told_in given) sync desk;
+  given = refl;
+  objects = refl;
+  desk_is = refl;
 }
 alone_heard k t slots (events.Put value count) w w' spent sync desk given alone r h = record {
-  label = tt; keeper = tt; at_desk = tt; granted = tt; has_given = tt;
-  watched = h.watcher (told_in given) sync desk; given = refl; objects = refl; desk_is = refl;
+  label = tt;
+  keeper = tt;
+  at_desk = tt;
+  granted = tt;
+  has_given = tt;
+  watched = h.watcher (told_in given) sync desk;
+  given = refl;
+  objects = refl;
+  desk_is = refl;
 }
 alone_heard k t slots events.Begin w w' spent sync desk given alone r h = absurd alone
 alone_heard k t slots (events.Create child) w w' spent sync desk given alone r h = absurd alone
@@ -113,20 +156,48 @@ pub stripe_heard : (k t slots : ℕ) (e : Event) (w w' : Watched) (old new : Syn
     HearsEvent k t e (record { watched = at_rest w; given = given; sync = record old { spare = 0 }; desk = desk })
     (record { watched = at_rest w'; given = given_after e given; sync = record new { spare = 0 }; desk = desk })
 stripe_heard k t slots (events.Acquire addr part) w w' old new spent desk given channel r h = record {
-  label = (r.label, r.labelled); keeper = h.keeper; at_desk = tt; granted = tt; has_given = tt;
-  watched = h.watcher (told_in given) desk; given = refl; objects = h.objects; desk_is = refl;
+  label = (r.label, r.labelled);
+  keeper = h.keeper;
+  at_desk = tt;
+  granted = tt;
+  has_given = tt;
+  watched = h.watcher (told_in given) desk;
+  given = refl;
+  objects = h.objects;
+  desk_is = refl;
 }
 stripe_heard k t slots (events.Release addr part replaces) w w' old new spent desk given channel r h = record {
-  label = (r.label, r.labelled); keeper = h.keeper; at_desk = tt; granted = tt; has_given = tt;
-  watched = h.watcher (told_in given) desk; given = refl; objects = h.objects; desk_is = refl;
+  label = (r.label, r.labelled);
+  keeper = h.keeper;
+  at_desk = tt;
+  granted = tt;
+  has_given = tt;
+  watched = h.watcher (told_in given) desk;
+  given = refl;
+  objects = h.objects;
+  desk_is = refl;
 }
 stripe_heard k t slots (events.Destroy addr) w w' old new spent desk given channel r h = record {
-  label = (r.label, r.labelled); keeper = h.keeper; at_desk = tt; granted = tt; has_given = tt;
-  watched = h.watcher (told_in given) desk; given = refl; objects = h.objects; desk_is = refl;
+  label = (r.label, r.labelled);
+  keeper = h.keeper;
+  at_desk = tt;
+  granted = tt;
+  has_given = tt;
+  watched = h.watcher (told_in given) desk;
+  given = refl;
+  objects = h.objects;
+  desk_is = refl;
 }
 stripe_heard k t slots (events.Clear addr) w w' old new spent desk given channel r h = record {
-  label = (r.label, r.labelled); keeper = h.keeper; at_desk = tt; granted = tt; has_given = tt;
-  watched = h.watcher (told_in given) desk; given = refl; objects = h.objects; desk_is = refl;
+  label = (r.label, r.labelled);
+  keeper = h.keeper;
+  at_desk = tt;
+  granted = tt;
+  has_given = tt;
+  watched = h.watcher (told_in given) desk;
+  given = refl;
+  objects = h.objects;
+  desk_is = refl;
 }
 stripe_heard k t slots _ w w' old new spent desk given channel r h = absurd channel
 
@@ -136,16 +207,37 @@ pub desk_heard : (k t slots : ℕ) (e : Event) (w w' : Watched) (sync : SyncObje
     HearsEvent k t e (record { watched = at_rest w; given = given; sync = sync; desk = old })
     (record { watched = at_rest w'; given = given_after e given; sync = sync; desk = new })
 desk_heard k t slots (events.Create child) w w' sync old new spent given desk at r h = record {
-  label = (r.label, r.labelled); keeper = tt; at_desk = at; granted = h.granted; has_given = tt;
-  watched = h.watcher (told_in given) sync; given = refl; objects = refl; desk_is = h.desk;
+  label = (r.label, r.labelled);
+  keeper = tt;
+  at_desk = at;
+  granted = h.granted;
+  has_given = tt;
+  watched = h.watcher (told_in given) sync;
+  given = refl;
+  objects = refl;
+  desk_is = h.desk;
 }
 desk_heard k t slots events.End w w' sync old new spent given desk at r h = record {
-  label = (r.label, r.labelled); keeper = tt; at_desk = at; granted = h.granted; has_given = tt;
-  watched = h.watcher (told_in given) sync; given = refl; objects = refl; desk_is = h.desk;
+  label = (r.label, r.labelled);
+  keeper = tt;
+  at_desk = at;
+  granted = h.granted;
+  has_given = tt;
+  watched = h.watcher (told_in given) sync;
+  given = refl;
+  objects = refl;
+  desk_is = h.desk;
 }
 desk_heard k t slots (events.Join of) w w' sync old new spent given desk at r h = record {
-  label = (r.label, r.labelled); keeper = tt; at_desk = at; granted = h.granted; has_given = tt;
-  watched = h.watcher (told_in given) sync; given = refl; objects = refl; desk_is = h.desk;
+  label = (r.label, r.labelled);
+  keeper = tt;
+  at_desk = at;
+  granted = h.granted;
+  has_given = tt;
+  watched = h.watcher (told_in given) sync;
+  given = refl;
+  objects = refl;
+  desk_is = h.desk;
 }
 desk_heard k t slots _ w w' sync old new spent given desk at r h = absurd desk
 
@@ -207,3 +299,112 @@ pub heard_map : (P Q : Option Label → Type 0) (r : Result Hearing NoMemory) �
 heard_map P Q (Ok (Heard spent)) f h = f spent h
 heard_map P Q (Ok Refused) f h = tt
 heard_map P Q (Err e) f h = tt
+
+-- ---- events that leave the place as it is
+
+same_bare : (place : Option Object) → SameBare place place
+same_bare None = tt
+same_bare (Some (Stripe s)) = (refl, refl, refl)
+same_bare (Some (Desk d)) = (refl, refl)
+
+pub put_one : (file : List ℕ) (limits : Limits) (k t : ℕ) (clock : List ℕ) (e : Event) (at : ℕ) (w : Watched) (place : Option Object) (checks : List Check) (me : Mine)
+    (value count : ℕ) → e ≡ events.Put value count → HearsOne file limits k t clock e at w w place place checks checks me me None
+put_one file limits k t clock e at w place checks me value count is =
+    subst (λ (x : Event). HearsOne file limits k t clock x at w w place place checks checks me me None) (sym is)
+    (quiet file limits k t clock (events.Put value count) at w w place place checks me None refl
+    (λ sync desk given g. record {
+      label = tt;
+      keeper = tt;
+      at_desk = tt;
+      granted = tt;
+      has_given = tt;
+      watched = refl;
+      given = refl;
+      objects = refl;
+      desk_is = refl;
+    })
+    refl (same_bare place))
+
+pub begin_one : (file : List ℕ) (limits : Limits) (k t : ℕ) (clock : List ℕ) (e : Event) (at : ℕ) (w w' : Watched) (place : Option Object) (checks : List Check) (me : Mine)
+    (spent : Option Label) → e ≡ events.Begin → IsReady limits.slots w e → HearsBegin clock w w' spent →
+    HearsOne file limits k t clock e at w w' place place checks checks me me spent
+begin_one file limits k t clock e at w w' place checks me spent is r h =
+    subst (λ (x : Event). IsReady limits.slots w x → HearsOne file limits k t clock x at w w' place place checks checks me me spent) (sym is)
+    (λ ready. quiet file limits k t clock events.Begin at w w' place place checks me spent refl
+    (λ sync desk given g. begin_heard k t limits.slots clock w w' spent (sync_at limits sync place) (slots_at limits desk place) given ready h g)
+    h.unspent (same_bare place)) r
+
+alone_unspent : (e : Event) (w : Watched) → IsAlone e → lost_after e w ≡ None
+alone_unspent (events.Enter frame) w a = refl
+alone_unspent events.Leave w a = refl
+alone_unspent (events.Lock addr read) w a = refl
+alone_unspent (events.Unlock addr read) w a = refl
+alone_unspent (events.Access place addr size read atomic) w a = refl
+alone_unspent (events.Put value count) w a = refl
+alone_unspent events.Begin w a = absurd a
+alone_unspent (events.Create child) w a = absurd a
+alone_unspent events.End w a = absurd a
+alone_unspent (events.Join of) w a = absurd a
+alone_unspent (events.Acquire addr part) w a = absurd a
+alone_unspent (events.Release addr part replaces) w a = absurd a
+alone_unspent (events.Destroy addr) w a = absurd a
+alone_unspent (events.Clear addr) w a = absurd a
+
+pub alone_one : (file : List ℕ) (limits : Limits) (k t : ℕ) (clock : List ℕ) (e : Event) (at : ℕ) (w w' : Watched) (place : Option Object) (checks : List Check) (me : Mine)
+    (spent : Option Label) → IsAlone e → access_of e ≡ None → ((given : Option (Option (List ℕ))) → given_after e given ≡ given) → IsReady limits.slots w e →
+    HearsAlone e w w' spent → HearsOne file limits k t clock e at w w' place place checks checks me me spent
+alone_one file limits k t clock e at w w' place checks me spent alone none kept r h =
+    quiet file limits k t clock e at w w' place place checks me spent none
+    (λ sync desk given g. alone_heard k t limits.slots e w w' spent (sync_at limits sync place) (slots_at limits desk place) given alone r h)
+    (h.unspent ∙ sym (alone_unspent e w alone)) (same_bare place)
+
+access_alone : (e : Event) → IsAccess e → IsAlone e
+access_alone (events.Access place addr size read atomic) a = tt
+access_alone _ a = absurd a
+
+pub access_one : (file : List ℕ) (limits : Limits) (k t : ℕ) (clock : List ℕ) (e : Event) (at : ℕ) (w w' : Watched) (place : Option Object) (before after : List Check) (old new : Mine)
+    (spent : Option Label) → IsAccess e → IsReady limits.slots w e → HearsAccess file e at w w' before after old new spent →
+    HearsOne file limits k t clock e at w w' place place before after old new spent
+access_one file limits k t clock e at w w' place before after old new spent access r h = record {
+  added = h.checks.added;
+  checks_are = h.checks.checks_are;
+  of_access = h.checks.of_access;
+  stores = h.checks.stores;
+  of_event = h.checks.of_event;
+  steps = h.checks.steps;
+  heard = λ sync desk given g. alone_heard k t limits.slots e w w' spent (sync_at limits sync place) (slots_at limits desk place) given (access_alone e access) r h.alone;
+  spent_is = h.alone.unspent ∙ sym (alone_unspent e w (access_alone e access));
+  bare = same_bare place;
+}
+
+-- an event of stack or locks
+quiet_alone : (e : Event) → IsQuiet e → IsAlone e
+quiet_alone (events.Enter frame) q = tt
+quiet_alone events.Leave q = tt
+quiet_alone (events.Lock addr read) q = tt
+quiet_alone (events.Unlock addr read) q = tt
+quiet_alone _ q = absurd q
+
+quiet_unchecked : (e : Event) → IsQuiet e → access_of e ≡ None
+quiet_unchecked (events.Enter frame) q = refl
+quiet_unchecked events.Leave q = refl
+quiet_unchecked (events.Lock addr read) q = refl
+quiet_unchecked (events.Unlock addr read) q = refl
+quiet_unchecked _ q = absurd q
+
+quiet_given : (e : Event) → IsQuiet e → (given : Option (Option (List ℕ))) → given_after e given ≡ given
+quiet_given (events.Enter frame) q given = refl
+quiet_given events.Leave q given = refl
+quiet_given (events.Lock addr read) q given = refl
+quiet_given (events.Unlock addr read) q given = refl
+quiet_given _ q given = absurd q
+
+pub quiet_one : (file : List ℕ) (limits : Limits) (k t : ℕ) (clock : List ℕ) (e : Event) (at : ℕ) (w w' : Watched) (place : Option Object) (checks : List Check) (me : Mine)
+    (spent : Option Label) → IsQuiet e → IsReady limits.slots w e → HearsAlone e w w' spent →
+    HearsOne file limits k t clock e at w w' place place checks checks me me spent
+quiet_one file limits k t clock e at w w' place checks me spent q r h =
+    alone_one file limits k t clock e at w w' place checks me spent (quiet_alone e q) (quiet_unchecked e q) (quiet_given e q) r h
+
+pub heard_only : (P Q : Option Label → Type 0) (r : Hearing) → ((spent : Option Label) → P spent → Q spent) → IsHeard P r → IsHeard Q r
+heard_only P Q (Heard spent) f h = f spent h
+heard_only P Q Refused f h = tt

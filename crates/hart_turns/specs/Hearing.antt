@@ -41,6 +41,14 @@ abbrev pub IsAccess : Event → Type 0
 IsAccess (events.Access place addr size read atomic) = Unit {0}
 IsAccess _ = ⊥
 
+-- an event of the thread's stack or locks
+abbrev pub IsQuiet : Event → Type 0
+IsQuiet (events.Enter frame) = Unit {0}
+IsQuiet events.Leave = Unit {0}
+IsQuiet (events.Lock addr read) = Unit {0}
+IsQuiet (events.Unlock addr read) = Unit {0}
+IsQuiet _ = ⊥
+
 -- by the desk the thread lives, and may end where it does
 pub record MayHear (w : Watched) (d : DeskContents) (t : ℕ) (e : Event) : Type 0 where
   pub lives : (thread_of d t).lives ≡ true

@@ -15,5 +15,6 @@ mod hear;
 mod slots;
 
 pub use check::check_access;
+pub use events::hear_event;
 pub use hear::Hearing;
 pub use slots::{ThreadState, leave_slot, take_slot};

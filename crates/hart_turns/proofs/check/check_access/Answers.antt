@@ -41,11 +41,12 @@ pub parts-preserved : goal.parts-preserved
 parts-preserved c =
     let i = (goal.at.parts-preserved c).In-Some in
     let half = half_now i in
-    let turn_is = ap (λ (n : ℕ). n % 4) (c.count.ensures ∙ ap (λ (t : HeldTrace). t.count) c.trace.ensures) in
-    (c.check-check.ensures.own,
+    let turn_is = ap (λ (n : ℕ). n % 4) (c.count.ensures ∙ ap (λ (t : HeldTrace). t.count) c.trace.ensures) in (
+      c.check-check.ensures.own,
       rw (c.in_ok-push.ensures.ok) (half_step c.args.image.now c.args.watcher.now c.args.event.now c.args.place c.args.checks.now c.parts.checks
-      c.args.seat.now.me c.parts.seat.me c.check-check.new.seat.me (c.in-Some.granule, c.in-Some.mask) _ _ c.check-check.result half c.check-check.ensures.check
-      turn_is c.check-check.ensures.log))
+          c.args.seat.now.me c.parts.seat.me c.check-check.new.seat.me (c.in-Some.granule, c.in-Some.mask) _ _ c.check-check.result half c.check-check.ensures.check
+          turn_is c.check-check.ensures.log),
+    )
 
 pub returns-clause-checked : goal.returns-clause-checked
 returns-clause-checked c =
