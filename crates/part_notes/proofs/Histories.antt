@@ -48,10 +48,6 @@ use Rattle.part_notes.proofs.Rounds.{era_over, one, listed, listed_each, listed_
 
 -- ---- alike moments
 
-alike_same : (h : List Moment) → AreAlike h h
-alike_same [] = tt
-alike_same (m ∷ h) = ((refl, refl), alike_same h)
-
 alike_then : (h k l : List Moment) → AreAlike h k → AreAlike k l → AreAlike h l
 alike_then [] [] [] a b = tt
 alike_then [] [] (z ∷ l) a b = absurd b
