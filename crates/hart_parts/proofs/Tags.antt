@@ -206,7 +206,8 @@ stretch_left : (d : ObjectDeed) (ds : List ObjectDeed) (items : Log) → IsStret
 stretch_left d ds items s =
     ap (left_for (d ∷ ds)) (stretch_is d items s)
     ∙ (left_more (d ∷ ds) (before_give d items s) (Give d.call.place s.number d.found d.left ∷ [])
-    ∙ ap (λ (es : List ObjectDeed). left_for es (Give d.call.place s.number d.found d.left ∷ [])) (quiet_left (d ∷ ds) (before_give d items s) (quiet_before d items s)))
+    ∙ ap (λ (es : List ObjectDeed). left_for es (Give d.call.place s.number d.found d.left ∷ []))
+    (quiet_left (d ∷ ds) (before_give d items s) (quiet_before d items s)))
 
 there : (xs : Log) (x : Item) (ys : Log) → get_elem? (xs ++ x ∷ ys) (length xs) ≡ some x
 there [] x ys = refl

@@ -116,7 +116,9 @@ pub record IsPartRound (file : List ℕ) (limits : Limits) (lay : Layout) (round
   pub before : Each (λ (p : Part). p.before ≡ m.local p.thread) r.parts
   pub apart : AreApart (map (λ (p : Part). p.thread) r.parts)
   pub logs : (i : ℕ) (p : Part) → slice_get r.parts i ≡ Some p → log_of (r.first_seat + i) r.late ≡ p.log
-  pub others : (n j : ℕ) (x : Item) → (IsSeatOfPart r n → ⊥) → get_elem? (log_of n r.late) j ≡ some x → IsTagged {L = Stamped Hand} {A = Unit {0}} {T = Tells} x []
+  pub others :
+      (n j : ℕ) (x : Item) → (IsSeatOfPart r n → ⊥) → get_elem? (log_of n r.late) j ≡ some x →
+      IsTagged {L = Stamped Hand} {A = Unit {0}} {T = Tells} x []
   pub merged : IsPermutation (entries_in (map (part_entries file limits) r.parts)) r.entries
   pub ordered : AreOrdered r.entries
   pub inside : Each (IsIn round era) r.entries
