@@ -37,14 +37,16 @@ detach_keeps d t = go (held_of d t)
 end_keeps : (d : DeskContents) (t : ℕ) (clock : List ℕ) → (after_end d t clock).made ≡ d.made
 end_keeps d t clock = go (held_of d t)
   where
-    go : (o : Option (ℕ × ℕ)) → (Rattle.std.specs.Option.option_map_or (λ (h : ℕ × ℕ). ended d t h.0 (Rattle.std.specs.Prelude.slice_index clock h.0) clock) o d).made ≡ d.made
+    go : (o : Option (ℕ × ℕ)) → (Rattle.std.specs.Option.option_map_or
+        (λ (h : ℕ × ℕ). ended d t h.0 (Rattle.std.specs.Prelude.slice_index clock h.0) clock) o d).made ≡ d.made
     go None = refl
     go (Some h) = refl
 
 create_more : (d : DeskContents) (clock : List ℕ) → d.made ≤ (after_create d clock).made
 create_more d clock = go (is_full d)
   where
-    go : (b : Bool) → d.made ≤ (cond b d (record d { made = d.made + 1; threads = Rattle.std.specs.Prelude.slice_set d.threads d.made (record { lives = true; told = Some clock }) })).made
+    go : (b : Bool) → d.made ≤ (cond b d
+        (record d { made = d.made + 1; threads = Rattle.std.specs.Prelude.slice_set d.threads d.made (record { lives = true; told = Some clock }) })).made
     go true = omega arith
     go false = omega arith
 
@@ -75,7 +77,8 @@ event_free : (d : DeskContents) (t child : ℕ) (e : Event) → IsGranted d t e 
 event_free d t child e g q = created_free d child (subst (IsGranted d t) (sym q) g)
 
 module _ (file : List ℕ) (harts era t k : ℕ) where
-  heard_more : (loads : Loads) (i : ℕ) (es : List Event) (cs : List (List Check)) (old new : Beside) → HearsEvents file k t loads i es cs old new → MakesMore old.desk new.desk es
+  heard_more : (loads : Loads) (i : ℕ) (es : List Event) (cs : List (List Check)) (old new : Beside) → HearsEvents file k t loads i es cs old new →
+      MakesMore old.desk new.desk es
   heard_more loads i [] [] old new h = record { more = (let q = ap (λ (b : Beside). b.desk.made) h in omega arith); free = λ child m. absurd m }
   heard_more loads i [] (c ∷ cs) old new h = absurd h
   heard_more loads i (e ∷ es) [] old new h = absurd h
@@ -100,7 +103,8 @@ module _ (file : List ℕ) (harts era t k : ℕ) where
       make r = record { more = r.more; free = λ child m. elim (in_parts (events.Create child) x.events [] m) [ inl n ↦ r.free child n | inr n ↦ absurd n ] }
   made_more (x ∷ (y ∷ rest)) found left pf pl h = make (heard_more x.loads 0 x.events x.checks _ _ h.2.heard) (made_more (y ∷ rest) h.0 left h.1 pl h.5)
     where
-      make : MakesMore pf.desk h.1.desk x.events → MakesMore h.1.desk pl.desk (all_events (y ∷ rest)) → MakesMore pf.desk pl.desk (x.events ++ all_events (y ∷ rest))
+      make : MakesMore pf.desk h.1.desk x.events → MakesMore h.1.desk pl.desk (all_events (y ∷ rest)) → MakesMore pf.desk pl.desk
+          (x.events ++ all_events (y ∷ rest))
       make r s = record {
         more = let a = r.more in let b = s.more in omega arith;
         free = λ child m. elim (in_parts (events.Create child) x.events (all_events (y ∷ rest)) m) [

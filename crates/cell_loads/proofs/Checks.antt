@@ -1,5 +1,6 @@
 -- The checks of a moment: four words each, granules that rise, and at most one store, in one of the four cells.
-use Rattle.std.proofs.Common.{◌≡◌, ◌≢◌, ◌<◌, ◌≤◌, ◌+◌, ◌*◌, ◌%◌, ◌⊎◌, inl, inr, ℕ, zero, suc, Bool, true, false, cond, List, [], ◌∷◌, ◌++◌, length, map, slice_get, Option, Some, None, refl, sym, ap, subst, ◌∙◌, arith}
+use Rattle.std.proofs.Common.{◌≡◌, ◌≢◌, ◌<◌, ◌≤◌, ◌+◌, ◌*◌, ◌%◌, ◌⊎◌, inl, inr, ℕ, zero, suc, Bool, true, false, cond, List, [], ◌∷◌, ◌++◌, length, map}
+use Rattle.std.proofs.Common.{slice_get, Option, Some, None, refl, sym, ap, subst, ◌∙◌, arith}
 use Rattle.std.specs.Prelude.{◌==◌, All, Contains, slice_index_or, option_map, position, unwrap_or, Ok}
 use Rattle.std.specs.List.{AllZip, list_any}
 use Rattle.std.proofs.lemmas.List.Quantifiers.{position-Some}
@@ -65,7 +66,8 @@ pub record LoadOf (c : Check) (number word : ℕ) : Type 0 where
   pub within : cell < length c.cells
   pub is : number ≡ 4 * c.granule + cell
 
-load_in : (k : ℕ) (ws : List ℕ) (number word : ℕ) → In (Load number word) (loads_from k ws) → (i : ℕ) × (slice_get ws i ≡ Some word) × (i < length ws) × (number ≡ k + i)
+load_in : (k : ℕ) (ws : List ℕ) (number word : ℕ) → In (Load number word) (loads_from k ws) → (i : ℕ) × (slice_get ws i ≡ Some word) × (i < length ws) ×
+    (number ≡ k + i)
 load_in k [] number word i = absurd i
 load_in k (w ∷ ws) number word (inl e) = (0, ap Some word_is, omega arith, number_is ∙ (let z : k ≡ k + 0 = omega arith in z))
   where
@@ -82,7 +84,8 @@ in_load k (w ∷ ws) zero word e = inl (ap (λ (n : ℕ). Load n word) (let z : 
   where
     word_is : word ≡ w
     word_is = cc
-in_load k (w ∷ ws) (suc i) word e = inr (subst (λ (n : ℕ). In (Load n word) (loads_from (k + 1) ws)) (let z : k + 1 + i ≡ k + suc i = omega arith in z) (in_load (k + 1) ws i word e))
+in_load k (w ∷ ws) (suc i) word e = inr
+    (subst (λ (n : ℕ). In (Load n word) (loads_from (k + 1) ws)) (let z : k + 1 + i ≡ k + suc i = omega arith in z) (in_load (k + 1) ws i word e))
 
 no_store : (k : ℕ) (ws : List ℕ) (number word : ℕ) → In (Store number word) (loads_from k ws) → ⊥
 no_store k [] number word i = i
@@ -101,7 +104,8 @@ load_of c number word i = elim (in_parts (Load number word) (loads_from (4 * c.g
 ]
 
 pub of_load : (c : Check) (cell word : ℕ) → slice_get c.cells cell ≡ Some word → In (Load (4 * c.granule + cell) word) (touches_of c)
-of_load c cell word e = in_left (Load (4 * c.granule + cell) word) (loads_from (4 * c.granule) c.cells) (store_at c.granule c.stored) (in_load (4 * c.granule) c.cells cell word e)
+of_load c cell word e = in_left (Load (4 * c.granule + cell) word) (loads_from (4 * c.granule) c.cells) (store_at c.granule c.stored)
+    (in_load (4 * c.granule) c.cells cell word e)
 
 -- and what its store was
 pub record StoreOf (c : Check) (number word : ℕ) : Type 0 where
@@ -109,7 +113,8 @@ pub record StoreOf (c : Check) (number word : ℕ) : Type 0 where
   pub stored : c.stored ≡ Some (cell, word)
   pub is : number ≡ 4 * c.granule + cell
 
-store_in : (granule number word : ℕ) (o : Option (ℕ × ℕ)) → In (Store number word) (store_at granule o) → (cell : ℕ) × (o ≡ Some (cell, word)) × (number ≡ 4 * granule + cell)
+store_in : (granule number word : ℕ) (o : Option (ℕ × ℕ)) → In (Store number word) (store_at granule o) → (cell : ℕ) × (o ≡ Some (cell, word)) ×
+    (number ≡ 4 * granule + cell)
 store_in granule number word None i = absurd i
 store_in granule number word (Some s) (inr i) = absurd i
 store_in granule number word (Some s) (inl e) = (s.0, ap (λ (w : ℕ). Some (s.0, w)) word_is, number_is)
@@ -131,13 +136,15 @@ of_store c cell word e = in_right (Store (4 * c.granule + cell) word) (loads_fro
     (subst (λ (o : Option (ℕ × ℕ)). In (Store (4 * c.granule + cell) word) (store_at c.granule o)) (sym e) (inl refl))
 
 -- a check loads before it stores
-pub loads_first : (c : Check) (ss : List Step) (x y w v p q : ℕ) → map item_of ss ≡ touches_of c → InOrder IsSooner ss → In (Load x w, p) ss → In (Store y v, q) ss → p < q
+pub loads_first : (c : Check) (ss : List Step) (x y w v p q : ℕ) → map item_of ss ≡ touches_of c → InOrder IsSooner ss → In (Load x w, p) ss → In
+    (Store y v, q) ss → p < q
 loads_first c ss x y w v p q e order i j = make (parted item_of ss (loads_from (4 * c.granule) c.cells) (store_at c.granule c.stored) e)
   where
     make : Parted item_of ss (loads_from (4 * c.granule) c.cells) (store_at c.granule c.stored) → p < q
     make r =
         let o = order_parts IsSooner r.front r.back (subst (InOrder IsSooner) r.whole order) in
-        both (in_parts (Load x w, p) r.front r.back (subst (In (Load x w, p)) r.whole i)) (in_parts (Store y v, q) r.front r.back (subst (In (Store y v, q)) r.whole j)) o.2
+        both (in_parts (Load x w, p) r.front r.back (subst (In (Load x w, p)) r.whole i))
+        (in_parts (Store y v, q) r.front r.back (subst (In (Store y v, q)) r.whole j)) o.2
       where
         both : In (Load x w, p) r.front ⊎ In (Load x w, p) r.back → In (Store y v, q) r.front ⊎ In (Store y v, q) r.back →
             ((s u : Step) → In s r.front → In u r.back → IsSooner s u) → p < q
@@ -159,7 +166,8 @@ pub record AreParts (cs : List Check) : Type 0 where
   pub each : Each IsFour cs
   pub rise : InOrder RisesTo cs
 
-zip_parts : (P : Part → Check → Type 0) → ((p : Part) (c : Check) → P p c → (c.granule ≡ p.granule) × IsFour c) → (ps : List Part) (cs : List Check) → AllZip P ps cs →
+zip_parts : (P : Part → Check → Type 0) → ((p : Part) (c : Check) → P p c → (c.granule ≡ p.granule) × IsFour c) → (ps : List Part) (cs : List Check) →
+    AllZip P ps cs →
     InOrder (λ (p q : Part). p.granule < q.granule) ps → AreParts cs
 zip_parts P f [] [] z o = record { each = tt; rise = tt }
 zip_parts P f [] (c ∷ cs) z o = absurd z
@@ -174,16 +182,19 @@ zip_parts P f (p ∷ ps) (c ∷ cs) z o =
     later (q ∷ qs) [] y e = absurd y
     later (q ∷ qs) (d ∷ ds) y e = (let a = (f p c z.0).0 in let b = (f q d y.0).0 in let l = e.0 in omega arith, later qs ds y.1 e.1)
 
-module _ (file : List ℕ) (g : ℕ) (accepted : image_of file ≡ Ok file) (entries : List Entry) (checks : AreAllChecks g (granule_of file) entries (moments entries)) where
+module _ (file : List ℕ) (g : ℕ) (accepted : image_of file ≡ Ok file) (entries : List Entry)
+    (checks : AreAllChecks g (granule_of file) entries (moments entries)) where
   pub are_parts : (n : ℕ) → AreParts (moment_at (moments entries) n).checks
   are_parts n = go (moment_at (moments entries) n).checks refl
     where
-      of_access : (t : ℕ) (o : Option Access) → AreChecks g (granule_of file) (moments entries) n t o → ((moment_at (moments entries) n).checks ≡ [] → ⊥) → AreParts (moment_at (moments entries) n).checks
+      of_access : (t : ℕ) (o : Option Access) → AreChecks g (granule_of file) (moments entries) n t o → ((moment_at (moments entries) n).checks ≡ [] → ⊥) →
+          AreParts (moment_at (moments entries) n).checks
       of_access t None h some = absurd (some h)
       of_access t (Some a) h some =
           zip_parts (ChecksPart g (moments entries) n t a) (λ p c k. (k.granule, record { four = k.four; turn = let e = k.turn in omega arith }))
           (parts_of (granule_of file) a) (moment_at (moments entries) n).checks h
-          (order_map pair_of (λ (p q : ℕ × ℕ). p.0 < q.0) (parts_of (granule_of file) a) (in_order (λ (p q : ℕ × ℕ). p.0 < q.0) (planned file a) (rising file a accepted)))
+          (order_map pair_of (λ (p q : ℕ × ℕ). p.0 < q.0) (parts_of (granule_of file) a)
+          (in_order (λ (p q : ℕ × ℕ). p.0 < q.0) (planned file a) (rising file a accepted)))
 
       go : (cs : List Check) → (moment_at (moments entries) n).checks ≡ cs → AreParts (moment_at (moments entries) n).checks
       go [] e = subst AreParts (sym e) (record { each = tt; rise = tt })

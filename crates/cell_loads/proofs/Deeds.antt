@@ -140,6 +140,8 @@ module _ (file : List ℕ) (limits : Limits) (era : ℕ) where
     left = h.left_there;
     above = let a = h.drawn in omega arith;
     over = let a = h.drawn in omega arith;
-    entry = entry_at d.call.thread d.call.place d.local_found.state d.local_left.state (hand_deed file limits d).found.state (hand_deed file limits d).left.state d.told.entry d.told.acts h.deed;
-    made = deed_more file limits era d.call.thread d.call.place d.local_found.state d.local_left.state (hand_deed file limits d).found.state (hand_deed file limits d).left.state d.told.entry d.told.acts h.deed;
+    entry = entry_at d.call.thread d.call.place d.local_found.state d.local_left.state (hand_deed file limits d).found.state
+        (hand_deed file limits d).left.state d.told.entry d.told.acts h.deed;
+    made = deed_more file limits era d.call.thread d.call.place d.local_found.state d.local_left.state (hand_deed file limits d).found.state
+        (hand_deed file limits d).left.state d.told.entry d.told.acts h.deed;
   }

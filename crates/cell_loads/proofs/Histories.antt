@@ -27,7 +27,8 @@ use Rattle.cell_loads.specs.Pasts.{ArePasts}
 use Rattle.cell_loads.proofs.Rounds.{timings_of}
 use Rattle.cell_loads.proofs.Loads.{all_load_rightly}
 
-module _ (file : List ℕ) (limits : Limits) (lay : Layout) (past : Past) (m : State (Stamped Hand) Object) (rs : List PartRound) (few : AreWatcherLimits limits)
+module _ (file : List ℕ) (limits : Limits) (lay : Layout) (past : Past) (m : State (Stamped Hand) Object) (rs : List PartRound)
+    (few : AreWatcherLimits limits)
     (first : AreFirstObjects file limits m) (ok : image_of file ≡ Ok file) (lawful : Lawful lay past) (pasts : ArePasts limits past [] m rs)
     (parts : ArePartRounds file limits lay 0 0 0 m rs) (rounds : AreTableRounds file limits lay 0 0 0 m (table_rounds m rs)) where
   abbrev entries : List Entry

@@ -93,7 +93,8 @@ module _ {X : Type 0} where
   each_index P d (x ∷ xs) zero h p = h.0
   each_index P d (x ∷ xs) (suc i) h p = each_index P d xs i h.1 p
 
-  pub order_index : (R : X → X → Type 0) (d : X) (xs : List X) (i j : ℕ) → i < j → InOrder R xs → ((x : X) → R x d) → R (slice_index_or xs i d) (slice_index_or xs j d)
+  pub order_index : (R : X → X → Type 0) (d : X) (xs : List X) (i j : ℕ) → i < j → InOrder R xs → ((x : X) → R x d) → R (slice_index_or xs i d)
+      (slice_index_or xs j d)
   order_index R d [] i j l h p = p d
   order_index R d (x ∷ xs) zero zero l h p = absurd (omega arith)
   order_index R d (x ∷ xs) zero (suc j) l h p = each_index (R x) d xs j h.0 (p x)

@@ -22,13 +22,15 @@ use Rattle.woven_turns.specs.Cells.{LoadRule}
 use Rattle.woven_turns.proofs.Loading.{Placed, load_rule}
 use Rattle.woven_turns.proofs.Weaving.{in_left, in_right}
 use Rattle.hart_parts.specs.Parts.{touches_of}
-use Rattle.cell_loads.specs.Spans.{Step, Checked, steps_of, checked_at, Timing, entries_timed, Span, event_span, entry_spans, era_span, spans_from, spans, no_span, span_at}
+use Rattle.cell_loads.specs.Spans.{Step, Checked, steps_of, checked_at, Timing, entries_timed, Span, event_span, entry_spans, era_span, spans_from, spans}
+use Rattle.cell_loads.specs.Spans.{no_span, span_at}
 use Rattle.cell_loads.specs.Spans.{WasMade, IsChecked, IsTiming, IsSoonerEntry, AreTimings}
 use Rattle.cell_loads.proofs.Lists.{in_flat, map_in, in_map, order_map, order_cases, in_index, index_in}
 use Rattle.cell_loads.proofs.Times.{in_at}
 use Rattle.cell_loads.proofs.Timed.{IsOfEntry, IsOfOne, all_spans, are_timed, moment_of_span}
 use Rattle.cell_loads.proofs.Steps.{item_of, checked_steps}
-use Rattle.cell_loads.proofs.Checks.{all_each, contains_in, in_contains, event_of_check, LoadOf, load_of, of_load, StoreOf, store_of, of_store, loads_first, RisesTo, AreParts, are_parts, IsFour, stores_below}
+use Rattle.cell_loads.proofs.Checks.{all_each, contains_in, in_contains, event_of_check, LoadOf, load_of, of_load, StoreOf, store_of, of_store, loads_first}
+use Rattle.cell_loads.proofs.Checks.{RisesTo, AreParts, are_parts, IsFour, stores_below}
 
 -- the event of that number
 event_there : (k n : ℕ) (es : List Event) → k ≤ n → n < k + length es → (e : Event) × In (n, e) (enumerate_from k es)
@@ -54,7 +56,8 @@ spans_there era i x (y ∷ xs) (inr m) = let r = spans_there y.entry.era (i + 1)
       (in_right s (entry_spans i y) (spans_from y.entry.era (i + 1) xs) (r.1 s k)),
 )
 
-module _ (lay : Layout) (past : tables.Past) (lawful : Lawful lay past) (xs : List Timing) (t : AreTimings past xs) (file : List ℕ) (g : ℕ) (accepted : image_of file ≡ Ok file)
+module _ (lay : Layout) (past : tables.Past) (lawful : Lawful lay past) (xs : List Timing) (t : AreTimings past xs) (file : List ℕ) (g : ℕ)
+    (accepted : image_of file ≡ Ok file)
     (checks : AreAllChecks g (granule_of file) (entries_timed xs) (moments (entries_timed xs))) (stores : AllStoreRightly (moments (entries_timed xs))) where
   abbrev h : List Moment
   h = moments (entries_timed xs)
@@ -106,13 +109,24 @@ module _ (lay : Layout) (past : tables.Past) (lawful : Lawful lay past) (xs : Li
       let o = with_step n u i in
       let k = o.is.steps r.0 u r.1 r.2 in
       let c = at_member (IsChecked past o.timing) r.0 o.timing.checked (at_member (IsTiming past) o.timing xs t.each o.among).checked (o.is.among r.0 r.1) in
-      record { checked = r.0; among = r.1; its = r.2; owner = o.timing; made = at_member (WasMade past o.timing.seat) u r.0.steps c.made r.2; is = c; from = k.0; to = k.1 }
+      record {
+        checked = r.0;
+        among = r.1;
+        its = r.2;
+        owner = o.timing;
+        made = at_member
+            (WasMade past o.timing.seat) u r.0.steps c.made r.2;
+        is = c;
+        from = k.0;
+        to = k.1;
+      }
 
   -- the checks at a position
   checks_at_span : (n : ℕ) → map (λ (c : Checked). c.check) (at n).checked ≡ (moment_at h n).checks
   checks_at_span n = elim (index_in no_span (spans xs) n) [
     | inl i ↦ known (at_member (IsOfOne xs) (at n) (spans xs) (all_spans past 0 0 xs t.each) i) ∙ ap (λ (m : Moment). m.checks) (sym (moment_of_span xs n))
-    | inr e ↦ ap (λ (s : Span). map (λ (c : Checked). c.check) s.checked) e ∙ (ap (λ (s : Span). s.moment.checks) (sym e) ∙ ap (λ (m : Moment). m.checks) (sym (moment_of_span xs n)))
+    | inr e ↦ ap (λ (s : Span). map (λ (c : Checked). c.check) s.checked) e ∙
+        (ap (λ (s : Span). s.moment.checks) (sym e) ∙ ap (λ (m : Moment). m.checks) (sym (moment_of_span xs n)))
   ]
     where
       known : IsOfOne xs (at n) → map (λ (c : Checked). c.check) (at n).checked ≡ (at n).moment.checks
@@ -234,7 +248,8 @@ module _ (lay : Layout) (past : tables.Past) (lawful : Lawful lay past) (xs : Li
               let k = loaded.within in
               let f = (is_four n a.checked.check (check_there n a.checked a.among)).four in
               let fb = is_four n b.checked.check (check_there n b.checked b.among) in
-              let l = stores_below b.checked.check stored.cell v fb (stores n b.checked.check (in_contains (moment_at h n).checks b.checked.check (check_there n b.checked b.among))) stored.stored in
+              let l = stores_below b.checked.check stored.cell v fb
+              (stores n b.checked.check (in_contains (moment_at h n).checks b.checked.check (check_there n b.checked b.among))) stored.stored in
               omega arith
 
           both : (a.checked ≡ b.checked) ⊎ (RisesTo a.checked.check b.checked.check ⊎ RisesTo b.checked.check a.checked.check) → p < q
@@ -268,7 +283,8 @@ module _ (lay : Layout) (past : tables.Past) (lawful : Lawful lay past) (xs : Li
   step_stored x granule cell word q low i = go (step_at x (Store (4 * granule + cell) word, q) i)
     where
       go : StepAt x (Store (4 * granule + cell) word, q) → Stored h x granule cell word
-      go a = make (store_of a.checked.check (4 * granule + cell) word (subst (In (Store (4 * granule + cell) word)) a.is.touches (map_in item_of (Store (4 * granule + cell) word, q) a.checked.steps a.its)))
+      go a = make (store_of a.checked.check (4 * granule + cell) word
+          (subst (In (Store (4 * granule + cell) word)) a.is.touches (map_in item_of (Store (4 * granule + cell) word, q) a.checked.steps a.its)))
         where
           make : StoreOf a.checked.check (4 * granule + cell) word → Stored h x granule cell word
           make s =
@@ -287,10 +303,13 @@ module _ (lay : Layout) (past : tables.Past) (lawful : Lawful lay past) (xs : Li
   loads_rightly : (a : ℕ) (c : Check) → Contains (moment_at h a).checks c → LoadsRightly g h a c
   loads_rightly a c k cell word e = go (there_check a c k)
     where
-      go : (d : Checked) × In d (at a).checked × (c ≡ d.check) → ((word ≡ 0) × FindsEmpty g h a c.granule cell) ⊎ ((word ≢ 0) × FindsWord g h a c.granule cell word)
-      go d = from (touch_there a d.0 (Load (4 * c.granule + cell) word) d.1 (subst (λ (z : Check). In (Load (4 * c.granule + cell) word) (touches_of z)) d.2 (of_load c cell word e)))
+      go : (d : Checked) × In d (at a).checked × (c ≡ d.check) → ((word ≡ 0) × FindsEmpty g h a c.granule cell) ⊎
+          ((word ≢ 0) × FindsWord g h a c.granule cell word)
+      go d = from (touch_there a d.0 (Load (4 * c.granule + cell) word) d.1
+          (subst (λ (z : Check). In (Load (4 * c.granule + cell) word) (touches_of z)) d.2 (of_load c cell word e)))
         where
-          from : (p : ℕ) × In (Load (4 * c.granule + cell) word, p) (steps_at a) → ((word ≡ 0) × FindsEmpty g h a c.granule cell) ⊎ ((word ≢ 0) × FindsWord g h a c.granule cell word)
+          from : (p : ℕ) × In (Load (4 * c.granule + cell) word, p) (steps_at a) → ((word ≡ 0) × FindsEmpty g h a c.granule cell) ⊎
+              ((word ≢ 0) × FindsWord g h a c.granule cell word)
           from l = cases (load_rule lay past Loads Stores IsOver first last lawful placed a (4 * c.granule + cell) word l.0 l.1)
             where
               low : cell < 4
@@ -301,7 +320,8 @@ module _ (lay : Layout) (past : tables.Past) (lawful : Lawful lay past) (xs : Li
                   let x = z.within in
                   omega arith
 
-              cases : LoadRule Stores IsOver a (4 * c.granule + cell) word → ((word ≡ 0) × FindsEmpty g h a c.granule cell) ⊎ ((word ≢ 0) × FindsWord g h a c.granule cell word)
+              cases : LoadRule Stores IsOver a (4 * c.granule + cell) word → ((word ≡ 0) × FindsEmpty g h a c.granule cell) ⊎
+                  ((word ≢ 0) × FindsWord g h a c.granule cell word)
               cases r = elim (cases_eq word 0) [
                 | inl z ↦ inl (
                   z,

@@ -16,7 +16,8 @@ module _ (lay : Layout) (measure : Object → ℕ) where
   measured None = 0
   measured (Some x) = measure x
 
-  one_step : (k n : ℕ) (x : Item) (past : Past) → Allowed lay past n x → Raises measure x → measured (turns_of lay k past).value ≤ measured (turns_of lay k ((n, x) ∷ past)).value
+  one_step : (k n : ℕ) (x : Item) (past : Past) → Allowed lay past n x → Raises measure x → measured (turns_of lay k past).value ≤ measured
+      (turns_of lay k ((n, x) ∷ past)).value
   one_step k n (Split m) past a r = omega arith
   one_step k n (Join m) past a r = omega arith
   one_step k n (Load c w) past a r = omega arith
@@ -47,20 +48,25 @@ module _ (lay : Layout) (measure : Object → ℕ) where
 
   module _ (early late : Past) (law : Lawful lay (late ++ early)) (raise : AllRaise measure late) where
     -- what a turn finds is what the object had then
-    found_there : (k n i : ℕ) (f l : Object) (e : Past) → Stands late e (n, Give k i f l) → ((turns_of lay k (e ++ early)).value ≡ Some f) × Lawful lay (e ++ early)
-    found_there k n i f l e s = let a = lawful_at lay (late ++ early) (e ++ early) (n, Give k i f l) law (stands_more late early e (n, Give k i f l) s) in (a.0.3, a.1)
+    found_there : (k n i : ℕ) (f l : Object) (e : Past) → Stands late e (n, Give k i f l) → ((turns_of lay k (e ++ early)).value ≡ Some f) × Lawful lay
+        (e ++ early)
+    found_there k n i f l e s = let a = lawful_at lay (late ++ early) (e ++ early) (n, Give k i f l) law (stands_more late early e (n, Give k i f l) s) in
+        (a.0.3, a.1)
 
     -- a turn finds no less than an earlier one left
-    pub later_found : (k n m i j : ℕ) (f l f' l' : Object) (e1 e2 : Past) → Stands late e2 (m, Give k j f' l') → Stands e2 e1 (n, Give k i f l) → measure l ≤ measure f'
+    pub later_found : (k n m i j : ℕ) (f l f' l' : Object) (e1 e2 : Past) → Stands late e2 (m, Give k j f' l') → Stands e2 e1 (n, Give k i f l) →
+        measure l ≤ measure f'
     later_found k n m i j f l f' l' e1 e2 b s =
         let a = found_there k m j f' l' e2 b in
         let g = grows k ((n, Give k i f l) ∷ e1) e2 early a.1 (raised_at late e2 (m, Give k j f' l') raise b) (stands_suffix e2 e1 (n, Give k i f l) s) in
-        let q = ap (λ (z : Turns). measured z.value) (if_here k k (turns_at ((turns_of lay k (e1 ++ early)).done + 1) (Some l) None) (turns_of lay k (e1 ++ early)) refl) in
+        let q = ap (λ (z : Turns). measured z.value)
+        (if_here k k (turns_at ((turns_of lay k (e1 ++ early)).done + 1) (Some l) None) (turns_of lay k (e1 ++ early)) refl) in
         let v = ap measured a.0 in
         omega arith
 
     -- nor less than there was at first
-    pub first_found : (k n i : ℕ) (f l x : Object) (e : Past) → (turns_of lay k early).value ≡ Some x → Stands late e (n, Give k i f l) → measure x ≤ measure f
+    pub first_found : (k n i : ℕ) (f l x : Object) (e : Past) → (turns_of lay k early).value ≡ Some x → Stands late e (n, Give k i f l) →
+        measure x ≤ measure f
     first_found k n i f l x e has s =
         let a = found_there k n i f l e s in
         let g = grows k [] e early a.1 (raised_at late e (n, Give k i f l) raise s) (none_before e) in

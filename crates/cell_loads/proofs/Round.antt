@@ -1,5 +1,6 @@
 -- The timings of a round, as its entries are listed.
-use Rattle.std.proofs.Common.{◌≡◌, ◌≢◌, ◌<◌, ◌≤◌, ◌+◌, ◌⊎◌, inl, inr, ℕ, zero, suc, List, [], ◌∷◌, ◌++◌, length, map, slice_get, Option, Some, None, refl, sym, ap, ap₂, subst, ◌∙◌, arith}
+use Rattle.std.proofs.Common.{◌≡◌, ◌≢◌, ◌<◌, ◌≤◌, ◌+◌, ◌⊎◌, inl, inr, ℕ, zero, suc, List, [], ◌∷◌, ◌++◌, length, map, slice_get, Option, Some, None, refl}
+use Rattle.std.proofs.Common.{sym, ap, ap₂, subst, ◌∙◌, arith}
 use Rattle.std.specs.List.{AllZip}
 use Rattle.std.proofs.lemmas.Bool.{cases_lt, cases_eq}
 use Rattle.std.proofs.lemmas.List.{map-append}
@@ -84,12 +85,14 @@ rises_along limits (d ∷ ds) l h f =
     omega arith
 
 module _ (file : List ℕ) (limits : Limits) (era : ℕ) (past early late : Past) (up : (n : ℕ) (s : Step) → IsLate early late n s → WasMade past n s)
-    (m : State (Stamped Hand) Object) (low : (t : ℕ) → last_in (m.value (desk + 1 + t)) ≤ (m.local t).last) (private : (k : ℕ) → desk < k → IsPrivate limits (m.value k)) where
+    (m : State (Stamped Hand) Object) (low : (t : ℕ) → last_in (m.value (desk + 1 + t)) ≤ (m.local t).last)
+    (private : (k : ℕ) → desk < k → IsPrivate limits (m.value k)) where
   -- the timings of one part
   one_part : (p : Part) (seat : ℕ) → IsPart file limits era p → p.before ≡ m.local p.thread → log_of seat late ≡ p.log →
       Walked limits past early late p.thread seat (length early) p.before.last (part_entries file limits p) (seat_steps early seat late)
   one_part p seat h before log =
-      walk limits past early late seat (up seat) file p.thread (m.value (desk + 1 + p.thread)) p.rest p.tried p.deeds h.log_is.stretches p.before (length early)
+      walk limits past early late seat (up seat) file p.thread (m.value (desk + 1 + p.thread)) p.rest p.tried p.deeds h.log_is.stretches p.before
+      (length early)
       (seat_steps early seat late) (omega (arith, Rattle.std.proofs.Common.length-append late early)) h.mine told h.follow h.log_is.each rested
       (seat_log early seat late ∙ (log ∙ h.log_is.whole)) (seat_order early seat late) (seat_late early seat late)
       (all_members (λ (s : Step). length early ≤ s.1) (seat_steps early seat late)
@@ -131,11 +134,13 @@ module _ (file : List ℕ) (limits : Limits) (era : ℕ) (past early late : Past
         timings = a.timings ++ b.timings;
         entries_are = map-append (λ (x : Timing). x.entry) a.timings b.timings ∙ ap₂ (λ (xs ys : List Entry). xs ++ ys) a.entries_are b.entries_are;
         each = each_append (IsOfRound limits past early late) a.timings b.timings
-            (all_members (IsOfRound limits past early late) a.timings (λ x i. let z = at_member (IsOfPart limits past early late p.thread seat (length early) p.before.last) x a.timings a.each i in
+            (all_members (IsOfRound limits past early late) a.timings
+            (λ x i. let z = at_member (IsOfPart limits past early late p.thread seat (length early) p.before.last) x a.timings a.each i in
             record { is = z.is; from = z.from; to = z.to; turn = z.turn })) b.each;
         known = each_append (λ (x : Timing). In x.entry.tid (map (λ (q : Part). q.thread) (p ∷ ps)) × (seat ≤ x.seat)) a.timings b.timings
             (all_members (λ (x : Timing). In x.entry.tid (map (λ (q : Part). q.thread) (p ∷ ps)) × (seat ≤ x.seat)) a.timings
-            (λ x i. let z = at_member (IsOfPart limits past early late p.thread seat (length early) p.before.last) x a.timings a.each i in let y = z.seat_is in (inl z.thread_is, omega arith)))
+            (λ x i. let z = at_member (IsOfPart limits past early late p.thread seat
+            (length early) p.before.last) x a.timings a.each i in let y = z.seat_is in (inl z.thread_is, omega arith)))
             (all_members (λ (x : Timing). In x.entry.tid (map (λ (q : Part). q.thread) (p ∷ ps)) × (seat ≤ x.seat)) b.timings
             (λ x i. let z = at_member (λ (x : Timing). In x.entry.tid (map (λ (q : Part). q.thread) ps) × (seat + 1 ≤ x.seat)) x b.timings b.known i in
             let y = z.1 in (inr z.0, omega arith)));
@@ -158,14 +163,16 @@ module _ (file : List ℕ) (limits : Limits) (era : ℕ) (past early late : Past
               IsStoreOf (a.timings ++ b.timings) c w (length (made ++ early))
           stores n c w made l k s = elim (cases_eq n seat) [
             | inl e ↦
-                let r = a.stores c w (length (made ++ early)) (seat_has early seat late made (Store c w) (subst (λ (z : ℕ). Stands late made (z, Store c w)) e s)) in
+                let r = a.stores c w (length (made ++ early))
+                (seat_has early seat late made (Store c w) (subst (λ (z : ℕ). Stands late made (z, Store c w)) e s)) in
                 (r.0, in_left r.0 a.timings b.timings r.1, r.2)
             | inr ne ↦
                 let r = b.stores n c w made (omega arith) (omega arith) s in
                 (r.0, in_right r.0 a.timings b.timings r.1, r.2)
           ]
 
-          raise : (n : ℕ) (made : Past) (x : Item) → seat ≤ n → n < seat + length (p ∷ ps) → Stands late made (n, x) → Raises last_in x × Raises (made_in limits) x
+          raise : (n : ℕ) (made : Past) (x : Item) → seat ≤ n → n < seat + length (p ∷ ps) → Stands late made (n, x) → Raises last_in x × Raises
+              (made_in limits) x
           raise n made x l k s = elim (cases_eq n seat) [
             | inl e ↦ at_member (StepRaises limits) (x, length (made ++ early)) (seat_steps early seat late) a.raise
                 (seat_has early seat late made x (subst (λ (z : ℕ). Stands late made (z, x)) e s))
@@ -288,10 +295,12 @@ module _ (file : List ℕ) (limits : Limits) (lay : Layout) (round era : ℕ) (m
         ty : HasTurn limits r.early r.late y
         ty = (of_round y j).turn (omega arith)
 
-        there : (made : Past) → Stands r.late made (y.seat, Give y.place ty.number ty.found ty.left) → Stands r.late made (y.seat, Give x.place ty.number ty.found ty.left)
+        there : (made : Past) → Stands r.late made (y.seat, Give y.place ty.number ty.found ty.left) → Stands r.late made
+            (y.seat, Give x.place ty.number ty.found ty.left)
         there made s = subst (λ (k : ℕ). Stands r.late made (y.seat, Give k ty.number ty.found ty.left)) (sym same) s
 
-        less : (e1 e2 : Past) → Stands r.late e1 (x.seat, Give x.place tx.number tx.found tx.left) → Stands r.late e2 (y.seat, Give x.place ty.number ty.found ty.left) → length (e1 ++ r.early) ≡ x.given →
+        less : (e1 e2 : Past) → Stands r.late e1 (x.seat, Give x.place tx.number tx.found tx.left) → Stands r.late e2
+            (y.seat, Give x.place ty.number ty.found ty.left) → length (e1 ++ r.early) ≡ x.given →
             x.entry.stamp < y.entry.stamp → x.given ≤ y.taken
         less e1 e2 a b q l =
             let t = ty.take in
@@ -300,15 +309,18 @@ module _ (file : List ℕ) (limits : Limits) (lay : Layout) (round era : ℕ) (m
             (subst (λ (k : ℕ). Stands r.late t.made (y.seat, Take k ty.number)) (sym same) t.stands) in
             let sx = tx.stamp in
             let sy = ty.stamp in
-            let z = given_before_taken lay last_in r.early r.late e1 e2 (t.made ++ r.early) x.place x.seat y.seat tx.number ty.number tx.found tx.left ty.found ty.left
+            let z = given_before_taken lay last_in r.early r.late e1 e2
+            (t.made ++ r.early) x.place x.seat y.seat tx.number ty.number tx.found tx.left ty.found ty.left
             h.lawful raises a b c (omega arith) in
             let u = t.place in
             let v = ty.taken in
             omega arith
 
         -- of two different turns one has the lesser stamp
-        differ : (e1 e2 : Past) → Stands r.late e1 (x.seat, Give x.place tx.number tx.found tx.left) → Stands r.late e2 (y.seat, Give x.place ty.number ty.found ty.left) → x.entry.stamp ≡ y.entry.stamp → x.entry.tid < y.entry.tid → ⊥
-        differ e1 e2 a b q lt = which (two r.late e1 e2 (x.seat, Give x.place tx.number tx.found tx.left) (y.seat, Give x.place ty.number ty.found ty.left) a b)
+        differ : (e1 e2 : Past) → Stands r.late e1 (x.seat, Give x.place tx.number tx.found tx.left) → Stands r.late e2
+            (y.seat, Give x.place ty.number ty.found ty.left) → x.entry.stamp ≡ y.entry.stamp → x.entry.tid < y.entry.tid → ⊥
+        differ e1 e2 a b q lt = which (two r.late e1 e2 (x.seat, Give x.place tx.number tx.found tx.left)
+            (y.seat, Give x.place ty.number ty.found ty.left) a b)
           where
             one : x.seat ≡ y.seat → (x ≡ y) ⊎ (AreParted x y ⊎ AreParted y x) → ⊥
             one s (inl e) = let z = ap (λ (t : Timing). t.entry.tid) e in omega arith
@@ -317,7 +329,9 @@ module _ (file : List ℕ) (limits : Limits) (lay : Layout) (round era : ℕ) (m
             one s (inr (inr (inl d))) = d.1 (sym s)
             one s (inr (inr (inr d))) = let z = d.0 in omega arith
 
-            which : Stands e2 e1 (x.seat, Give x.place tx.number tx.found tx.left) ⊎ (Stands e1 e2 (y.seat, Give x.place ty.number ty.found ty.left) ⊎ ((step_by x.seat (Give x.place tx.number tx.found tx.left) ≡ step_by y.seat (Give x.place ty.number ty.found ty.left)) × (e1 ≡ e2))) → ⊥
+            which : Stands e2 e1 (x.seat, Give x.place tx.number tx.found tx.left) ⊎
+                (Stands e1 e2 (y.seat, Give x.place ty.number ty.found ty.left) ⊎
+                ((step_by x.seat (Give x.place tx.number tx.found tx.left) ≡ step_by y.seat (Give x.place ty.number ty.found ty.left)) × (e1 ≡ e2))) → ⊥
             which (inl s) =
                 let z = later_found lay last_in r.early r.late h.lawful raises x.place x.seat y.seat tx.number ty.number tx.found tx.left ty.found ty.left e1 e2 b s in
                 let sx = tx.stamp in let sy = ty.stamp in let ry = ty.raised in omega arith
@@ -326,7 +340,8 @@ module _ (file : List ℕ) (limits : Limits) (lay : Layout) (round era : ℕ) (m
                 let sx = tx.stamp in let sy = ty.stamp in let rx = tx.raised in omega arith
             which (inr (inr s)) = one (ap (λ (z : ℕ × Item). z.0) s.0) cases
 
-        go : IsLate r.early r.late x.seat (Give x.place tx.number tx.found tx.left, x.given) → IsLate r.early r.late y.seat (Give y.place ty.number ty.found ty.left, y.given) → x.given ≤ y.taken
+        go : IsLate r.early r.late x.seat (Give x.place tx.number tx.found tx.left, x.given) → IsLate r.early r.late y.seat
+            (Give y.place ty.number ty.found ty.left, y.given) → x.given ≤ y.taken
         go a b = by_stamp first
           where
             by_stamp : Precedes x.entry y.entry → x.given ≤ y.taken
@@ -338,10 +353,12 @@ module _ (file : List ℕ) (limits : Limits) (lay : Layout) (round era : ℕ) (m
         let at = (of_round x i).is.places (events.Create child) desk c refl in
         let turn = (of_round x i).turn (omega arith) in
         let stands = subst (λ (k : ℕ). Stands r.late turn.give.made (x.seat, Give k turn.number turn.found turn.left)) at turn.give.stands in
-        let grown = first_found lay (made_in limits) r.early r.late h.lawful makes_more desk x.seat turn.number turn.found turn.left (m.value desk) turn.give.made
+        let grown = first_found lay (made_in limits) r.early r.late h.lawful makes_more desk x.seat turn.number turn.found turn.left
+        (m.value desk) turn.give.made
         (h.values desk (let o = h.objects in omega arith)) stands in
         let free = turn.free child c in
-        let known = (at_member (λ (z : Timing). In z.entry.tid (map (λ (p : Part). p.thread) r.parts) × (r.first_seat ≤ z.seat)) y walked.timings walked.known (walked_in y j)).0 in
+        let known = (at_member (λ (z : Timing). In z.entry.tid (map (λ (p : Part). p.thread) r.parts) ×
+        (r.first_seat ≤ z.seat)) y walked.timings walked.known (walked_in y j)).0 in
         let p = in_map (λ (p : Part). p.thread) y.entry.tid r.parts known in
         let born = at_member (λ (p : Part). p.thread < made_in limits (m.value desk)) p.0 r.parts g.born p.1 in
         let same = p.2 in

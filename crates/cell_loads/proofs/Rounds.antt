@@ -12,7 +12,10 @@ use Rattle.shared_table.specs.declared.object.Object.{Object}
 use Rattle.shared_table.specs.declared.view.Item.{Item}
 use Rattle.shared_table.specs.declared.view.Item.TheVariants.{Store}
 use Rattle.shared_table.specs.declared.view.Layout.{Layout}
-use Rattle.shared_table.specs.Past.{Past}
+use mathlib.Core.Option.{some}
+use lib.ListN.{get_elem?}
+use Rattle.woven_turns.proofs.Items.{item_in_log}
+use Rattle.shared_table.specs.Past.{log_of, Past}
 use Rattle.woven_turns.specs.Steps.{Stands}
 use Rattle.woven_turns.proofs.Standing.{stands_more}
 use Rattle.woven_turns.proofs.Weaving.{in_left, in_right}
@@ -47,6 +50,14 @@ stands_parts (x ∷ late) early e y (inr s) = elim (stands_parts late early e y 
   | inr r ↦ inr r
 ]
 
+-- a past is quiet where its logs are
+pub quiet_from_logs : (past : Past) → ((n j : ℕ) (x : Item) → get_elem? (log_of n past) j ≡ some x → TouchesNone x) → AreQuiet past
+quiet_from_logs past h = each_step past (λ n made x s. h n (length (log_of n made)) x (item_in_log past made n x s))
+  where
+    each_step : (late : Past) → ((n : ℕ) (made : Past) (x : Item) → Stands late made (n, x) → TouchesNone x) → AreQuiet late
+    each_step [] f = tt
+    each_step ((n, x) ∷ late) f = (f n late x (inl (refl, refl)), each_step late (λ k made y s. f k made y (inr s)))
+
 -- no step of a quiet past is a store
 quiet_store : (past e : Past) (n c w : ℕ) → AreQuiet past → Stands past e (n, Store c w) → ⊥
 quiet_store [] e n c w h s = s
@@ -60,7 +71,8 @@ after_quiet between before e n c w h s = elim (stands_parts between before e (n,
 ]
 
 -- the whole past goes on from each round's
-goes_on : (limits : Limits) (past before : Past) (m : State (Stamped Hand) Object) (rs : List PartRound) → ArePasts limits past before m rs → (more : Past) × (past ≡ more ++ before)
+goes_on : (limits : Limits) (past before : Past) (m : State (Stamped Hand) Object) (rs : List PartRound) → ArePasts limits past before m rs →
+    (more : Past) × (past ≡ more ++ before)
 goes_on limits past before m [] h = (h.0, h.2)
 goes_on limits past before m (r ∷ rs) h =
     let z = goes_on limits past (r.late ++ r.early) r.next rs h.1 in (
@@ -153,7 +165,8 @@ module _ (file : List ℕ) (limits : Limits) (lay : Layout) (past : Past) where
               ]
 
   -- the entries of all rounds have right timings in the past
-  pub timings_of : (rs : List PartRound) (round era base : ℕ) (m : State (Stamped Hand) Object) → ArePartRounds file limits lay round era base m rs → ArePasts limits past [] m rs →
+  pub timings_of : (rs : List PartRound) (round era base : ℕ) (m : State (Stamped Hand) Object) → ArePartRounds file limits lay round era base m rs →
+      ArePasts limits past [] m rs →
       (xs : List Timing) × (entries_timed xs ≡ all_entries (entries_by_round (table_rounds m rs))) × AreTimings past xs
   timings_of rs round era base m h g =
       let a = all_timed rs round era base m [] h g in

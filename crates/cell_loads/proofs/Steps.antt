@@ -1,5 +1,6 @@
 -- The steps of a seat in a round, and the checks that they belong to.
-use Rattle.std.proofs.Common.{◌≡◌, ◌<◌, ◌≤◌, ◌==◌, if◌then◌else◌, ℕ, List, [], ◌∷◌, ◌++◌, length, map, inl, inr, refl, sym, ap, subst, ◌∙◌, arith, length-append}
+use Rattle.std.proofs.Common.{◌≡◌, ◌<◌, ◌≤◌, ◌==◌, if◌then◌else◌, ℕ, List, [], ◌∷◌, ◌++◌, length, map, inl, inr, refl, sym, ap, subst, ◌∙◌, arith}
+use Rattle.std.proofs.Common.{length-append}
 use Rattle.std.proofs.lemmas.List.{map-append}
 use mathlib.Core.Logic.{dite}
 use native.Mathlib.Decide.{ℕ_discrete}
@@ -58,7 +59,8 @@ module _ (early : Past) (n : ℕ) where
       let rest = all_members (IsLate early (x ∷ late) n) (seat_steps early n late)
       (λ s i. later x late s (at_member (IsLate early late n) s (seat_steps early n late) (seat_late late) i)) in
       dite (ℕ_discrete x.0 n)
-      (λ e. subst (Each (IsLate early (x ∷ late) n)) (sym (mine x late e)) (each_append (IsLate early (x ∷ late) n) (seat_steps early n late) (newest x late ∷ []) rest
+      (λ e. subst (Each (IsLate early (x ∷ late) n)) (sym (mine x late e))
+      (each_append (IsLate early (x ∷ late) n) (seat_steps early n late) (newest x late ∷ []) rest
       (record { made = late; stands = inl (ap (λ (m : ℕ). step_by m x.1) e, refl); place = refl }, tt)))
       (λ o. subst (Each (IsLate early (x ∷ late) n)) (sym (others x late o)) rest)
 
@@ -71,7 +73,8 @@ module _ (early : Past) (n : ℕ) where
   pub seat_order : (late : Past) → InOrder IsSooner (seat_steps early n late)
   seat_order [] = tt
   seat_order (x ∷ late) = dite (ℕ_discrete x.0 n)
-      (λ e. subst (InOrder IsSooner) (sym (mine x late e)) (order_append IsSooner (seat_steps early n late) (newest x late ∷ []) (seat_order late) (tt, tt) last))
+      (λ e. subst (InOrder IsSooner) (sym (mine x late e))
+      (order_append IsSooner (seat_steps early n late) (newest x late ∷ []) (seat_order late) (tt, tt) last))
       (λ o. subst (InOrder IsSooner) (sym (others x late o)) (seat_order late))
     where
       last : (s u : Step) → In s (seat_steps early n late) → In u (newest x late ∷ []) → IsSooner s u

@@ -1,5 +1,6 @@
 -- The items of a history whose entries have right timings have times.
-use Rattle.std.proofs.Common.{◌≡◌, ◌<◌, ◌≤◌, ◌+◌, ◌-◌, ◌⊎◌, inl, inr, ℕ, zero, suc, Bool, List, [], ◌∷◌, ◌++◌, map, replicate, Some, refl, sym, ap, ap₂, subst, ◌∙◌, arith}
+use Rattle.std.proofs.Common.{◌≡◌, ◌<◌, ◌≤◌, ◌+◌, ◌-◌, ◌⊎◌, inl, inr, ℕ, zero, suc, Bool, List, [], ◌∷◌, ◌++◌, map, replicate, Some, refl, sym, ap, ap₂}
+use Rattle.std.proofs.Common.{subst, ◌∙◌, arith}
 use Rattle.std.specs.List.{enumerate_from}
 use Rattle.std.proofs.lemmas.List.{map-append}
 use Rattle.run_record.specs.declared.event.Event.{Event}
@@ -22,7 +23,8 @@ use Rattle.cell_loads.proofs.Times.{item_at, IsSpanOf, spans_are, spans_order}
 -- the pairs that times must order
 pub data Linked (a b : Item) : Type 0 where
   Own : (t : ℕ) → IsBy t a → IsBy t b → Linked a b
-  Channel : (t u addr : ℕ) (part : Part) (replaces : Bool) → a ≡ Does t (events.Release addr part replaces) → b ≡ Does u (events.Acquire addr part) → Linked a b
+  Channel : (t u addr : ℕ) (part : Part) (replaces : Bool) → a ≡ Does t (events.Release addr part replaces) → b ≡ Does u (events.Acquire addr part) →
+      Linked a b
   Created : (t child : ℕ) → a ≡ Does t (events.Create child) → b ≡ Does child events.Begin → Linked a b
   Joined : (child t : ℕ) → a ≡ Does child events.End → b ≡ Does t (events.Join child) → Linked a b
   Attached : (t u : ℕ) (l : Label) → a ≡ Does t events.End → b ≡ Notes u (Attach l) → Linked a b
@@ -151,7 +153,11 @@ era_right s u i round e l = absurd (none_to s.moment.item (subst (λ (z : Span).
 
 eras_order : (n i round : ℕ) → InOrder IsOrdered (replicate n (era_span i round))
 eras_order zero i round = tt
-eras_order (suc n) i round = (eras_each (IsOrdered (era_span i round)) n i round (era_left (era_span i round) (era_span i round) i round refl), eras_order n i round)
+eras_order (suc n) i round = (
+  eras_each (IsOrdered (era_span i round)) n i round
+      (era_left (era_span i round) (era_span i round) i round refl),
+  eras_order n i round,
+)
 
 is_era : (s : Span) (n i round : ℕ) → In s (replicate n (era_span i round)) → s ≡ era_span i round
 is_era s zero i round m = absurd m
@@ -191,7 +197,8 @@ module _ (past : tables.Past) where
       (λ s u m n. era_left s u i x.entry.round (is_era s (x.entry.era - era) i x.entry.round m))
 
   module _ (xs : List Timing) (h : Each (IsTiming past) xs) (o : InOrder IsSoonerEntry xs) where
-    in_order_at : (i j : ℕ) → i < j → Linked (items (moments (entries_timed xs)) i) (items (moments (entries_timed xs)) j) → (span_at (spans xs) i).hi ≤ (span_at (spans xs) j).lo
+    in_order_at : (i j : ℕ) → i < j → Linked (items (moments (entries_timed xs)) i) (items (moments (entries_timed xs)) j) → (span_at (spans xs) i).hi ≤
+        (span_at (spans xs) j).lo
     in_order_at i j l k =
         order_index IsOrdered no_span (spans xs) i j l (spans_in_order 0 0 xs h o) (λ s z. absurd (none_past s.moment.item z))
         (subst (λ (m : Moment). Linked (span_at (spans xs) i).moment.item m.item) (moment_of_span xs j)

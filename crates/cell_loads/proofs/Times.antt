@@ -1,5 +1,6 @@
 -- The times of an entry's events.
-use Rattle.std.proofs.Common.{◌≡◌, ◌<◌, ◌≤◌, ◌+◌, ◌==◌, ◌⊎◌, inl, inr, ℕ, zero, suc, Bool, cond, true, false, List, [], ◌∷◌, map, Option, Some, None, refl, sym, ap, subst, ◌∙◌, arith, eqb-true, eq-eqb}
+use Rattle.std.proofs.Common.{◌≡◌, ◌<◌, ◌≤◌, ◌+◌, ◌==◌, ◌⊎◌, inl, inr, ℕ, zero, suc, Bool, cond, true, false, List, [], ◌∷◌, map, Option, Some, None, refl}
+use Rattle.std.proofs.Common.{sym, ap, subst, ◌∙◌, arith, eqb-true, eq-eqb}
 use Rattle.std.specs.Prelude.{nat_lt, take, filter}
 use Rattle.std.specs.List.{enumerate_from}
 use Rattle.std.proofs.lemmas.Bool.{cases_Bool, cond-true, cond-false, ltb-true, ltb-false, lt-ltb}
@@ -95,7 +96,8 @@ module _ (past : tables.Past) (x : Timing) (h : IsTiming past x) where
       ]
 
   pub until_given : (n : ℕ) → until x n ≤ x.given
-  until_given n = over_least (opens x n) x.given (steps_of (checked_before n x.checked)) base (all_members (λ (s : Step). s.1 < x.given) (steps_of (checked_before n x.checked)) each)
+  until_given n = over_least (opens x n) x.given (steps_of (checked_before n x.checked)) base
+      (all_members (λ (s : Step). s.1 < x.given) (steps_of (checked_before n x.checked)) each)
     where
       base : opens x n ≤ x.given
       base = let d = h.begins in let g = h.holds in elim (opens_cases x n) [
@@ -104,12 +106,14 @@ module _ (past : tables.Past) (x : Timing) (h : IsTiming past x) where
       ]
 
       each : (s : Step) → In s (steps_of (checked_before n x.checked)) → s.1 < x.given
-      each s i = let r = before_in n s x.checked i in at_member (λ (u : Step). u.1 < x.given) s r.0.steps (at_member (IsChecked past x) r.0 x.checked h.checked r.1).ended r.3
+      each s i = let r = before_in n s x.checked i in at_member (λ (u : Step). u.1 < x.given) s r.0.steps
+          (at_member (IsChecked past x) r.0 x.checked h.checked r.1).ended r.3
 
   -- a step of an event's check was made while the event was
   pub step_within : (n : ℕ) (s : Step) (c : Checked) → In c x.checked → c.check.event ≡ n → In s c.steps → (until x n ≤ s.1) × (s.1 < until x (n + 1))
   step_within n s c i e j = (
-    over_least (opens x n) s.1 (steps_of (checked_before n x.checked)) base (all_members (λ (u : Step). u.1 < s.1) (steps_of (checked_before n x.checked)) sooner),
+    over_least (opens x n) s.1 (steps_of (checked_before n x.checked)) base
+        (all_members (λ (u : Step). u.1 < s.1) (steps_of (checked_before n x.checked)) sooner),
     over_step (opens x (n + 1)) s (steps_of (checked_before (n + 1) x.checked)) (in_before (n + 1) s c x.checked i (omega arith) j),
   )
     where
@@ -125,7 +129,8 @@ module _ (past : tables.Past) (x : Timing) (h : IsTiming past x) where
       sooner : (u : Step) → In u (steps_of (checked_before n x.checked)) → u.1 < s.1
       sooner u k =
           let r = before_in n u x.checked k in
-          let events = order_map (λ (d : Checked). d.check) (λ (a b : Check). a.event ≤ b.event) x.checked (subst (InOrder (λ (a b : Check). a.event ≤ b.event)) (sym h.checks) h.events) in
+          let events = order_map (λ (d : Checked). d.check) (λ (a b : Check). a.event ≤ b.event) x.checked
+          (subst (InOrder (λ (a b : Check). a.event ≤ b.event)) (sym h.checks) h.events) in
           let both = order_both AreSooner (λ (a b : Checked). a.check.event ≤ b.check.event) x.checked h.order events in
           go r.0 r.2 r.3 (order_cases (λ (a b : Checked). AreSooner a b × (a.check.event ≤ b.check.event)) r.0 c x.checked both r.1 i)
         where
@@ -186,7 +191,8 @@ local_nowhere (events.Clear a) k l o = cc
 abbrev check_of : Checked → Check
 check_of d = d.check
 
-filtered : (n : ℕ) (cs : List Checked) → map (λ (c : Checked). c.check) (checked_at n cs) ≡ filter (λ (d : Check). d.event == n) (map (λ (c : Checked). c.check) cs)
+filtered : (n : ℕ) (cs : List Checked) → map (λ (c : Checked). c.check) (checked_at n cs) ≡ filter (λ (d : Check). d.event == n)
+    (map (λ (c : Checked). c.check) cs)
 filtered n [] = refl
 filtered n (c ∷ cs) = go (c.check.event == n) (filtered n cs)
   where
@@ -238,7 +244,8 @@ module _ (past : tables.Past) (x : Timing) (h : IsTiming past x) (i : ℕ) where
       weaken : Each (λ (q : ℕ × Event). (n + 1 ≤ q.0) × In q.1 es × (q.0 < n + 1 + 0 → is_local q.1 ≡ true)) (enumerate_from (n + 1) es) →
           Each (λ (q : ℕ × Event). (n ≤ q.0) × In q.1 (e ∷ es) × (q.0 < n + 0 → is_local q.1 ≡ true)) (enumerate_from (n + 1) es)
       weaken a = all_members (λ (q : ℕ × Event). (n ≤ q.0) × In q.1 (e ∷ es) × (q.0 < n + 0 → is_local q.1 ≡ true)) (enumerate_from (n + 1) es)
-          (λ q m. let r = at_member (λ (q : ℕ × Event). (n + 1 ≤ q.0) × In q.1 es × (q.0 < n + 1 + 0 → is_local q.1 ≡ true)) q (enumerate_from (n + 1) es) a m in
+          (λ q m. let r = at_member (λ (q : ℕ × Event). (n + 1 ≤ q.0) × In q.1 es × (q.0 < n + 1 + 0 → is_local q.1 ≡ true)) q
+          (enumerate_from (n + 1) es) a m in
           let z = r.0 in (omega arith, inr r.1, λ y. absurd (omega arith)))
   numbered n (suc k) (e ∷ es) l = (
     (omega arith, inl refl, λ z. l.0),
@@ -248,7 +255,8 @@ module _ (past : tables.Past) (x : Timing) (h : IsTiming past x) (i : ℕ) where
       weaken : Each (λ (q : ℕ × Event). (n + 1 ≤ q.0) × In q.1 es × (q.0 < n + 1 + k → is_local q.1 ≡ true)) (enumerate_from (n + 1) es) →
           Each (λ (q : ℕ × Event). (n ≤ q.0) × In q.1 (e ∷ es) × (q.0 < n + suc k → is_local q.1 ≡ true)) (enumerate_from (n + 1) es)
       weaken a = all_members (λ (q : ℕ × Event). (n ≤ q.0) × In q.1 (e ∷ es) × (q.0 < n + suc k → is_local q.1 ≡ true)) (enumerate_from (n + 1) es)
-          (λ q m. let r = at_member (λ (q : ℕ × Event). (n + 1 ≤ q.0) × In q.1 es × (q.0 < n + 1 + k → is_local q.1 ≡ true)) q (enumerate_from (n + 1) es) a m in
+          (λ q m. let r = at_member (λ (q : ℕ × Event). (n + 1 ≤ q.0) × In q.1 es × (q.0 < n + 1 + k → is_local q.1 ≡ true)) q
+          (enumerate_from (n + 1) es) a m in
           let z = r.0 in (omega arith, inr r.1, λ y. r.2 (omega arith)))
 
   are_numbered : Each (IsNumbered x) (enumerate_from 0 x.entry.events)
@@ -310,9 +318,12 @@ module _ (past : tables.Past) (x : Timing) (h : IsTiming past x) (i : ℕ) where
 
   note_first : (note : DeskNote) → x.entry.note ≡ note → Each (λ (s : Span). at_note x note ≤ s.lo) (map (event_span i x) (enumerate_from 0 x.entry.events))
   note_first Nothing e = all_members (λ (s : Span). x.start ≤ s.lo) (map (event_span i x) (enumerate_from 0 x.entry.events))
-      (λ s m. (at_member (IsSpanOf x) s (map (event_span i x) (enumerate_from 0 x.entry.events)) (events_are (enumerate_from 0 x.entry.events) are_numbered) m).from)
-  note_first (Attach l) e = subst (λ (es : List Event). Each (λ (s : Span). x.taken ≤ s.lo) (map (event_span i x) (enumerate_from 0 es))) (sym (h.noted (λ q. let z : Attach l ≡ Nothing = sym e ∙ q in cc))) tt
-  note_first (Leave l) e = subst (λ (es : List Event). Each (λ (s : Span). x.taken ≤ s.lo) (map (event_span i x) (enumerate_from 0 es))) (sym (h.noted (λ q. let z : Leave l ≡ Nothing = sym e ∙ q in cc))) tt
+      (λ s m. (at_member (IsSpanOf x) s (map (event_span i x) (enumerate_from 0 x.entry.events))
+      (events_are (enumerate_from 0 x.entry.events) are_numbered) m).from)
+  note_first (Attach l) e = subst (λ (es : List Event). Each (λ (s : Span). x.taken ≤ s.lo) (map (event_span i x) (enumerate_from 0 es)))
+      (sym (h.noted (λ q. let z : Attach l ≡ Nothing = sym e ∙ q in cc))) tt
+  note_first (Leave l) e = subst (λ (es : List Event). Each (λ (s : Span). x.taken ≤ s.lo) (map (event_span i x) (enumerate_from 0 es)))
+      (sym (h.noted (λ q. let z : Leave l ≡ Nothing = sym e ∙ q in cc))) tt
 
   -- what happens in an entry is over before the next thing in it begins
   pub spans_order : InOrder (λ (s u : Span). s.hi ≤ u.lo) (entry_spans i x)

@@ -1,5 +1,6 @@
 -- The timings of a part of a round, deed by deed.
-use Rattle.std.proofs.Common.{◌≡◌, ◌<◌, ◌≤◌, ◌+◌, ◌*◌, true, inl, inr, ℕ, List, [], ◌∷◌, ◌++◌, length, map, Option, Some, None, refl, sym, ap, subst, ◌∙◌, arith}
+use Rattle.std.proofs.Common.{◌≡◌, ◌<◌, ◌≤◌, ◌+◌, ◌*◌, true, inl, inr, ℕ, List, [], ◌∷◌, ◌++◌, length, map, Option, Some, None, refl, sym, ap, subst, ◌∙◌}
+use Rattle.std.proofs.Common.{arith}
 use Rattle.std.specs.Prelude.{take}
 use Rattle.std.specs.List.{AllZip, flat_map}
 use Rattle.std.proofs.lemmas.List.{map-append, append_assoc}
@@ -86,9 +87,12 @@ pub record Stretched (limits : Limits) (d : ObjectDeed) (ss : List Step) : Type 
   pub late_raise : Each (StepRaises limits) (steps_of within)
 
 stretched : (limits : Limits) (d : ObjectDeed) (items : Log) (ss : List Step) → IsStretch d items → map item_of ss ≡ items → Stretched limits d ss
-stretched limits d items ss h e = make (parted item_of ss (all_touches h.early) (Take d.call.place h.number ∷ (all_touches h.late ++ Give d.call.place h.number d.found d.left ∷ [])) (e ∙ h.items_are))
+stretched limits d items ss h e = make
+    (parted item_of ss (all_touches h.early) (Take d.call.place h.number ∷ (all_touches h.late ++ Give d.call.place h.number d.found d.left ∷ []))
+    (e ∙ h.items_are))
   where
-    make : Parted item_of ss (all_touches h.early) (Take d.call.place h.number ∷ (all_touches h.late ++ Give d.call.place h.number d.found d.left ∷ [])) → Stretched limits d ss
+    make : Parted item_of ss (all_touches h.early) (Take d.call.place h.number ∷ (all_touches h.late ++ Give d.call.place h.number d.found d.left ∷ [])) →
+        Stretched limits d ss
     make p =
         let check_of : Checked → Check = λ c. c.check in
         let q = parted item_of p.back (Take d.call.place h.number ∷ []) (all_touches h.late ++ Give d.call.place h.number d.found d.left ∷ []) p.backs in
@@ -184,7 +188,8 @@ module _ (limits : Limits) (past early late : Past) (seat : ℕ) (up : (s : Step
   Late = IsLate early late seat
 
   -- the timing of a deed at an object
-  module _ (d : ObjectDeed) (ss : List Step) (start : ℕ) (told : IsToldDeed limits d) (st : Stretched limits d ss) (order : InOrder IsSooner ss) (late_is : Each Late ss)
+  module _ (d : ObjectDeed) (ss : List Step) (start : ℕ) (told : IsToldDeed limits d) (st : Stretched limits d ss) (order : InOrder IsSooner ss)
+      (late_is : Each Late ss)
       (from : Each (λ (s : Step). start ≤ s.1) ss) where
     abbrev back : List Step
     back = st.took ∷ (steps_of st.within ++ st.gave ∷ [])
@@ -205,7 +210,8 @@ module _ (limits : Limits) (past early late : Past) (seat : ℕ) (up : (s : Step
     outer : InOrder IsSooner (steps_of st.before) × InOrder IsSooner back × ((x y : Step) → In x (steps_of st.before) → In y back → IsSooner x y)
     outer = order_parts IsSooner (steps_of st.before) back (subst (InOrder IsSooner) st.whole order)
 
-    inner : InOrder IsSooner (steps_of st.within) × InOrder IsSooner (st.gave ∷ []) × ((x y : Step) → In x (steps_of st.within) → In y (st.gave ∷ []) → IsSooner x y)
+    inner : InOrder IsSooner (steps_of st.within) × InOrder IsSooner (st.gave ∷ []) ×
+        ((x y : Step) → In x (steps_of st.within) → In y (st.gave ∷ []) → IsSooner x y)
     inner = order_parts IsSooner (steps_of st.within) (st.gave ∷ []) outer.1.1
 
     gave_in : In st.gave back
@@ -335,8 +341,14 @@ module _ (limits : Limits) (past early late : Past) (seat : ℕ) (up : (s : Step
     pub deed_raise : Each (StepRaises limits) ss
     deed_raise = subst (Each (StepRaises limits)) (sym st.whole) (each_append (StepRaises limits) (steps_of st.before) back st.early_raise (
       (subst (Raises last_in) (sym st.take_is) tt, subst (Raises (made_in limits)) (sym st.take_is) tt),
-      each_append (StepRaises limits) (steps_of st.within) (st.gave ∷ []) st.late_raise
-          ((subst (Raises last_in) (sym st.give_is) (let a = told.over in let b = told.left in omega arith), subst (Raises (made_in limits)) (sym st.give_is) told.made.more), tt),
+      each_append (StepRaises limits) (steps_of st.within) (st.gave ∷ []) st.late_raise (
+        (
+          subst (Raises last_in) (sym st.give_is) (let a = told.over in let b = told.left in omega arith),
+          subst (Raises (made_in limits))
+              (sym st.give_is) told.made.more,
+        ),
+        tt,
+      ),
     ))
 
   -- ---- without an object
@@ -418,7 +430,8 @@ module _ (limits : Limits) (past early late : Past) (seat : ℕ) (up : (s : Step
   try_raises measure None = tt
   try_raises measure (Some x) = (tt, (omega arith, tt))
 
-  tried_steps : (tried : Option Try) (ss : List Step) → map item_of ss ≡ try_items tried → Each (StepRaises limits) ss × ((c w p : ℕ) → In (Store c w, p) ss → ⊥)
+  tried_steps : (tried : Option Try) (ss : List Step) → map item_of ss ≡ try_items tried → Each (StepRaises limits) ss ×
+      ((c w p : ℕ) → In (Store c w, p) ss → ⊥)
   tried_steps tried ss e = (
     all_members (StepRaises limits) ss (λ s i.
         let k = subst (In s.0) e (map_in item_of s ss i) in (
@@ -457,7 +470,8 @@ module _ (limits : Limits) (past early late : Past) (seat : ℕ) (up : (s : Step
               )
               | inr j ↦ absurd (t.1 c w q j)
             ];
-            raise = subst (Each (StepRaises limits)) (sym p.whole) (each_append (StepRaises limits) p.front p.back (touches_raise limits r.entry.checks p.front p.fronts) t.0);
+            raise = subst (Each (StepRaises limits)) (sym p.whole)
+                (each_append (StepRaises limits) p.front p.back (touches_raise limits r.entry.checks p.front p.fronts) t.0);
           }
 
   -- ---- all deeds of a part
@@ -487,7 +501,8 @@ module _ (limits : Limits) (past early late : Past) (seat : ℕ) (up : (s : Step
         let late' = each_parts Late p.front p.back (subst (Each Late) p.whole late_is) in
         let from' = each_parts (λ (s : Step). start ≤ s.1) p.front p.back (subst (Each (λ (s : Step). start ≤ s.1)) p.whole from) in
         let gave : In st.gave p.front = subst (In st.gave) (sym st.whole)
-        (in_right st.gave (steps_of st.before) (st.took ∷ (steps_of st.within ++ st.gave ∷ [])) (inr (in_right st.gave (steps_of st.within) (st.gave ∷ []) (inl refl)))) in
+        (in_right st.gave (steps_of st.before) (st.took ∷ (steps_of st.within ++ st.gave ∷ []))
+        (inr (in_right st.gave (steps_of st.within) (st.gave ∷ []) (inl refl)))) in
         let bound = (late_bounds early seat late st.gave (at_member Late st.gave p.front late'.0 gave)).1 in
         let begun = at_member (λ (s : Step). start ≤ s.1) st.gave p.front from'.0 gave in
         let same : l.last ≡ d.local_found.last = ap (λ (z : Stamped Hand). z.last) follow in

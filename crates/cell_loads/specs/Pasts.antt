@@ -32,8 +32,8 @@ AreQuiet past = Each (λ (x : ℕ × Item). TouchesNone x.1) past
 abbrev pub made_in : Limits → Object → ℕ
 made_in limits x = (slots_in limits x).made
 
--- The round goes on from that past, after steps of which none is at a cell. In the round only seats of its parts make steps at cells;
--- and the threads of its parts were made before it.
+-- The round goes on from that past, after steps of which none is at a cell. In the round only seats of its parts make
+-- steps at cells; and the threads of its parts were made before it.
 pub record GoesOn (limits : Limits) (before : Past) (m : State (Stamped Hand) Object) (r : PartRound) : Type 0 where
   pub between : Past
   pub quiet : AreQuiet between

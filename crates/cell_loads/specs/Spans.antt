@@ -1,5 +1,8 @@
--- When what an entry tells was made: the steps of its checks in the past of the shared table, and the times that follow from them.
-use Rattle.std.specs.Prelude.{◌≡◌, ◌≢◌, ◌<◌, ◌≤◌, ◌⊎◌, ◌+◌, ◌-◌, ◌==◌, max, nat_lt, if◌then◌else◌, ℕ, true, List, [], ◌∷◌, ◌++◌, length, map, filter, take, replicate, slice_index_or, flat_map, Option, Some, None}
+-- When what an entry tells was made: the steps of its checks in the past of the shared table, and the times that
+-- follow from them.
+use Rattle.std.specs.Prelude.{◌≡◌, ◌≢◌, ◌<◌, ◌≤◌, ◌⊎◌, ◌+◌, ◌-◌, ◌==◌, max, nat_lt, if◌then◌else◌, ℕ, true, List, []}
+use Rattle.std.specs.Prelude.{◌∷◌, ◌++◌, length, map, filter, take, replicate, slice_index_or, flat_map, Option, Some}
+use Rattle.std.specs.Prelude.{None}
 use Rattle.std.specs.List.{enumerate_from}
 use Rattle.run_record.specs.declared.event.Event.{Event}
 use Rattle.run_record.specs.declared.event.Event.TheVariants as events
@@ -50,9 +53,9 @@ over n (s ∷ ss) = max (s.1 + 1) (over n ss)
 
 -- ---- an entry
 
--- An entry of a thread, with when it was made. A time is a number of steps of the past. The entry tells what its thread did at a
--- place, by the steps of a seat, from the time `start` to the time `stop`; from `taken` to `given` the seat had the place's
--- object. Its last instruction has the events from the number `first` on.
+-- An entry of a thread, with when it was made. A time is a number of steps of the past. The entry tells what its
+-- thread did at a place, by the steps of a seat, from the time `start` to the time `stop`; from `taken` to `given`
+-- the seat had the place's object. Its last instruction has the events from the number `first` on.
 pub record Timing : Type 0 where
   pub entry : Entry
   pub place : ℕ
@@ -98,7 +101,12 @@ pub record Span : Type 0 where
 
 abbrev pub event_span : ℕ → Timing → ℕ × Event → Span
 event_span i x (place, event) =
-    record { moment = event_moment i x.entry (place, event); lo = until x place; hi = until x (place + 1); checked = checked_at place x.checked }
+    record {
+      moment = event_moment i x.entry (place, event);
+      lo = until x place;
+      hi = until x (place + 1);
+      checked = checked_at place x.checked;
+    }
 
 abbrev pub note_span : ℕ → Timing → Span
 note_span i x = record {
@@ -113,7 +121,12 @@ entry_spans i x = note_span i x ∷ map (event_span i x) (enumerate_from 0 x.ent
 
 -- no thread begins an era, and none waits for it: it has no time
 abbrev pub era_span : ℕ → ℕ → Span
-era_span i round = record { moment = record { entry = i; round = round; item = NewEra; checks = [] }; lo = 0; hi = 0; checked = [] }
+era_span i round = record {
+  moment = record { entry = i; round = round; item = NewEra; checks = [] };
+  lo = 0;
+  hi = 0;
+  checked = [];
+}
 
 abbrev pub spans_from : ℕ → ℕ → List Timing → List Span
 spans_from era i [] = []
@@ -141,8 +154,8 @@ pub record WasMade (past : Past) (seat : ℕ) (s : Step) : Type 0 where
   pub stands : Stands past early (seat, s.0)
   pub place : length early ≡ s.1
 
--- The seat made the check's steps one after another, within the entry's times. Those of the last instruction it made after it had
--- taken the object.
+-- The seat made the check's steps one after another, within the entry's times. Those of the last instruction it made
+-- after it had taken the object.
 pub record IsChecked (past : Past) (x : Timing) (c : Checked) : Type 0 where
   pub touches : map (λ (s : Step). s.0) c.steps ≡ touches_of c.check
   pub made : Each (WasMade past x.seat) c.steps
@@ -155,8 +168,9 @@ pub record IsChecked (past : Past) (x : Timing) (c : Checked) : Type 0 where
 abbrev pub AreSooner : Checked → Checked → Type 0
 AreSooner c d = (s u : Step) → In s c.steps → In u d.steps → IsSooner s u
 
--- The timing is right: the checks are the entry's, in the order of events, and were made in that order; what reaches a clock or another
--- thread was made by the last instruction, at its object; a slot is taken at the desk, in an entry without events.
+-- The timing is right: the checks are the entry's, in the order of events, and were made in that order; what reaches
+-- a clock or another thread was made by the last instruction, at its object; a slot is taken at the desk, in an entry
+-- without events.
 pub record IsTiming (past : Past) (x : Timing) : Type 0 where
   pub checks : map (λ (c : Checked). c.check) x.checked ≡ x.entry.checks
   pub checked : Each (IsChecked past x) x.checked
@@ -170,8 +184,9 @@ pub record IsTiming (past : Past) (x : Timing) : Type 0 where
   pub noted : x.entry.note ≢ Nothing → x.entry.events ≡ []
   pub attached : (l : Label) → x.entry.note ≡ Attach l → x.place ≡ desk
 
--- How an entry stands before a later one of the same round: if they are of one thread, it is over before the other begins; if they
--- are of one object, it has given it back before the other takes it; and it creates no thread that runs in the round.
+-- How an entry stands before a later one of the same round: if they are of one thread, it is over before the other
+-- begins; if they are of one object, it has given it back before the other takes it; and it creates no thread that
+-- runs in the round.
 pub record IsSoonerInRound (x y : Timing) : Type 0 where
   pub round : x.entry.round ≡ y.entry.round
   pub thread : x.entry.tid ≡ y.entry.tid → x.stop ≤ y.start
