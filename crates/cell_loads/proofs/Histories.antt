@@ -19,9 +19,10 @@ use Rattle.placed_detector.specs.Standing.{Hand}
 use Rattle.deed_histories.specs.Rounds.{FollowsRounds, listed_entries}
 use Rattle.deed_histories.proofs.Histories.{from_first}
 use Rattle.table_deeds.specs.Objects.{AreFirstObjects, held_at}
-use Rattle.table_deeds.specs.Rounds.{AreTableRounds, AreKept, entries_by_round}
+use Rattle.table_deeds.specs.Rounds.{AreKept, entries_by_round}
 use Rattle.table_deeds.proofs.First.{first_kept}
 use Rattle.table_deeds.proofs.Rounds.{all_rounds}
+use Rattle.hart_parts.proofs.Rounds.{rounds_are}
 use Rattle.hart_parts.specs.Rounds.{PartRound, ArePartRounds, table_rounds}
 use Rattle.cell_loads.specs.Pasts.{ArePasts}
 use Rattle.cell_loads.proofs.Rounds.{timings_of}
@@ -30,12 +31,12 @@ use Rattle.cell_loads.proofs.Loads.{all_load_rightly}
 module _ (file : List ℕ) (limits : Limits) (lay : Layout) (past : Past) (m : State (Stamped Hand) Object) (rs : List PartRound)
     (few : AreWatcherLimits limits)
     (first : AreFirstObjects file limits m) (ok : image_of file ≡ Ok file) (lawful : Lawful lay past) (pasts : ArePasts limits past [] m rs)
-    (parts : ArePartRounds file limits lay 0 0 0 m rs) (rounds : AreTableRounds file limits lay 0 0 0 m (table_rounds m rs)) where
+    (parts : ArePartRounds file limits lay 0 0 0 m rs) where
   abbrev entries : List Entry
   entries = all_entries (entries_by_round (table_rounds m rs))
 
   kept : AreKept file limits 0 0 0 m (table_rounds m rs)
-  kept = all_rounds file limits lay (table_rounds m rs) 0 0 0 m rounds
+  kept = all_rounds file limits lay (table_rounds m rs) 0 0 0 m (rounds_are file limits lay rs 0 0 0 m parts)
 
   follow : FollowsRounds file limits 0 0 0 (held_at file limits m) (first_stamped file limits.slots) kept.rounds
   follow = from_first file limits few (held_at file limits m) (first_kept file limits m first) kept.rounds ok kept.are

@@ -25,6 +25,7 @@ TouchesNone (Join m) = Unit {0}
 TouchesNone (Take k i) = Unit {0}
 TouchesNone (Give k i found left) = Unit {0}
 
+-- no step of the past is at a cell
 abbrev pub AreQuiet : Past → Type 0
 AreQuiet past = Each (λ (x : ℕ × Item). TouchesNone x.1) past
 

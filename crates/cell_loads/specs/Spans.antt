@@ -28,6 +28,7 @@ use Rattle.hart_parts.specs.Parts.{touches_of}
 abbrev pub Step : Type 0
 Step = Item × ℕ
 
+-- it was made before the other
 abbrev pub IsSooner : Step → Step → Type 0
 IsSooner s u = s.1 < u.1
 
@@ -36,6 +37,7 @@ pub record Checked : Type 0 where
   pub check : Check
   pub steps : List Step
 
+-- the steps of checks, check after check
 abbrev pub steps_of : List Checked → List Step
 steps_of cs = flat_map (λ (c : Checked). c.steps) cs
 
@@ -67,11 +69,12 @@ pub record Timing : Type 0 where
   pub stop : ℕ
   pub checked : List Checked
 
--- before which time the event of number n wasn't begun, if there are no earlier ones
+-- the time before which the event of number n isn't made, whatever comes before it: when the entry begins, or for the last
+-- instruction when the object is taken
 abbrev pub opens : Timing → ℕ → ℕ
 opens x n = if nat_lt n x.first then x.start else x.taken
 
--- the time at which all events before that of number n are over
+-- the time at which all events before that of number n are over, and from which that one is made
 abbrev pub until : Timing → ℕ → ℕ
 until x n = over (opens x n) (steps_of (checked_before n x.checked))
 
@@ -99,6 +102,7 @@ pub record Span : Type 0 where
   pub hi : ℕ
   pub checked : List Checked
 
+-- an event of the entry, by its number
 abbrev pub event_span : ℕ → Timing → ℕ × Event → Span
 event_span i x (place, event) =
     record {
@@ -108,6 +112,7 @@ event_span i x (place, event) =
       checked = checked_at place x.checked;
     }
 
+-- the entry's beginning, with its note
 abbrev pub note_span : ℕ → Timing → Span
 note_span i x = record {
   moment = record { entry = i; round = x.entry.round; item = Notes x.entry.tid x.entry.note; checks = [] };
@@ -116,6 +121,7 @@ note_span i x = record {
   checked = [];
 }
 
+-- an entry, as the history's moments have it
 abbrev pub entry_spans : ℕ → Timing → List Span
 entry_spans i x = note_span i x ∷ map (event_span i x) (enumerate_from 0 x.entry.events)
 
@@ -128,6 +134,7 @@ era_span i round = record {
   checked = [];
 }
 
+-- all entries from one of that number on, after an entry of that era
 abbrev pub spans_from : ℕ → ℕ → List Timing → List Span
 spans_from era i [] = []
 spans_from era i (x ∷ xs) =
@@ -137,12 +144,14 @@ spans_from era i (x ∷ xs) =
 abbrev pub spans : List Timing → List Span
 spans xs = spans_from 0 0 xs
 
+-- past the end there is nothing
 abbrev pub no_span : Span
 no_span = record { moment = record { entry = 0; round = 0; item = NoItem; checks = [] }; lo = 0; hi = 0; checked = [] }
 
 abbrev pub span_at : List Span → ℕ → Span
 span_at ss n = slice_index_or ss n no_span
 
+-- the entries that these are the timings of
 abbrev pub entries_timed : List Timing → List Entry
 entries_timed xs = map (λ (x : Timing). x.entry) xs
 
@@ -198,6 +207,7 @@ pub record IsInSoonerRound (x y : Timing) : Type 0 where
   pub round : x.entry.round < y.entry.round
   pub over : x.stop ≤ y.start
 
+-- either of these
 abbrev pub IsSoonerEntry : Timing → Timing → Type 0
 IsSoonerEntry x y = IsSoonerInRound x y ⊎ IsInSoonerRound x y
 

@@ -31,7 +31,7 @@ ghost use Rattle.shared_table.specs.declared.view.Item.{Item};
 ghost use Rattle.shared_table.specs.Past.{Past, log_of, Lawful};
 ghost use Rattle.placed_detector.specs.Standing.{Hand};
 ghost use Rattle.table_deeds.specs.Objects.{AreFirstObjects};
-ghost use Rattle.table_deeds.specs.Rounds.{AreTableRounds, entries_by_round};
+ghost use Rattle.table_deeds.specs.Rounds.{entries_by_round};
 ghost use Rattle.hart_parts.specs.Rounds.{PartRound, ArePartRounds, table_rounds};
 ghost use Rattle.cell_loads.specs.Spans.{Timing, entries_timed, spans, span_at, AreTimings};
 ghost use Rattle.cell_loads.specs.Pasts.{TouchesNone, AreQuiet, ArePasts};
@@ -75,6 +75,6 @@ pub fn history_law()
         (rs : List PartRound) →
         AreWatcherLimits limits → AreFirstObjects file limits m → image_of file ≡ Ok file → Lawful lay past →
         ArePasts limits past [] m rs →
-        ArePartRounds file limits lay 0 0 0 m rs → AreTableRounds file limits lay 0 0 0 m (table_rounds m rs) →
+        ArePartRounds file limits lay 0 0 0 m rs →
         AllLoadRightly limits.epochs (moments (all_entries (entries_by_round (table_rounds m rs)))) }
 {}
