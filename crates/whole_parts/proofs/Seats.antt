@@ -82,20 +82,23 @@ module _ (ds : List ObjectDeed) (log : Log) (f : ℕ → List ObjectDeed) (later
       ∙ ap (λ (xs : List ObjectDeed). f 0 ++ xs)
       (ap (λ (g : ℕ → List ObjectDeed). first_deeds g (length log)) (later_is f ds log later) ∙ all)
 
-shift : (j : ℕ) → suc j - 1 ≡ j
-shift j = omega arith
+-- behind the first item the others follow
+shift : (ds other : List ObjectDeed) (log : Log) (j : ℕ) → cond (nat_lt 0 (suc j)) (tags_along ds log (suc j - 1)) other ≡ tags_along ds log j
+shift ds other log j =
+    let z : suc j - 1 ≡ j = omega arith in
+    ap (λ (b : Bool). cond b (tags_along ds log (suc j - 1)) other) (lt-ltb 0 (suc j) (omega arith)) ∙ ap (tags_along ds log) z
 
 -- each deed goes with a give, where there are as many
 all_tags : (ds : List ObjectDeed) (log : Log) → length ds ≤ gives log → first_deeds (tags_along ds log) (length log) ≡ ds
 all_tags [] log l = nothing (length log) (tags_along [] log) (no_tags log)
 all_tags (d ∷ ds) [] l = absurd (omega (arith, l))
 all_tags (d ∷ ds) (Give k i found left ∷ log) l =
-    shifted ds log (tags_along (d ∷ ds) (Give k i found left ∷ log)) (λ j. ap (tags_along ds log) (shift j)) (all_tags ds log (omega (arith, l)))
-all_tags (d ∷ ds) (Take k i ∷ log) l = shifted (d ∷ ds) log (tags_along (d ∷ ds) (Take k i ∷ log)) (λ j. ap (tags_along (d ∷ ds) log) (shift j)) (all_tags (d ∷ ds) log l)
-all_tags (d ∷ ds) (Split n ∷ log) l = shifted (d ∷ ds) log (tags_along (d ∷ ds) (Split n ∷ log)) (λ j. ap (tags_along (d ∷ ds) log) (shift j)) (all_tags (d ∷ ds) log l)
-all_tags (d ∷ ds) (Join n ∷ log) l = shifted (d ∷ ds) log (tags_along (d ∷ ds) (Join n ∷ log)) (λ j. ap (tags_along (d ∷ ds) log) (shift j)) (all_tags (d ∷ ds) log l)
-all_tags (d ∷ ds) (Load c w ∷ log) l = shifted (d ∷ ds) log (tags_along (d ∷ ds) (Load c w ∷ log)) (λ j. ap (tags_along (d ∷ ds) log) (shift j)) (all_tags (d ∷ ds) log l)
-all_tags (d ∷ ds) (Store c w ∷ log) l = shifted (d ∷ ds) log (tags_along (d ∷ ds) (Store c w ∷ log)) (λ j. ap (tags_along (d ∷ ds) log) (shift j)) (all_tags (d ∷ ds) log l)
+    shifted ds log (tags_along (d ∷ ds) (Give k i found left ∷ log)) (shift ds (d ∷ []) log) (all_tags ds log (omega (arith, l)))
+all_tags (d ∷ ds) (Take k i ∷ log) l = shifted (d ∷ ds) log (tags_along (d ∷ ds) (Take k i ∷ log)) (shift (d ∷ ds) [] log) (all_tags (d ∷ ds) log l)
+all_tags (d ∷ ds) (Split n ∷ log) l = shifted (d ∷ ds) log (tags_along (d ∷ ds) (Split n ∷ log)) (shift (d ∷ ds) [] log) (all_tags (d ∷ ds) log l)
+all_tags (d ∷ ds) (Join n ∷ log) l = shifted (d ∷ ds) log (tags_along (d ∷ ds) (Join n ∷ log)) (shift (d ∷ ds) [] log) (all_tags (d ∷ ds) log l)
+all_tags (d ∷ ds) (Load c w ∷ log) l = shifted (d ∷ ds) log (tags_along (d ∷ ds) (Load c w ∷ log)) (shift (d ∷ ds) [] log) (all_tags (d ∷ ds) log l)
+all_tags (d ∷ ds) (Store c w ∷ log) l = shifted (d ∷ ds) log (tags_along (d ∷ ds) (Store c w ∷ log)) (shift (d ∷ ds) [] log) (all_tags (d ∷ ds) log l)
 
 -- a stretch ends a turn
 stretch_gives : (d : ObjectDeed) (items : Log) → IsStretch d items → 1 ≤ gives items

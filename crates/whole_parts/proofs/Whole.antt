@@ -127,6 +127,6 @@ module _ (file : List ℕ) (limits : Limits) (ok : image_of file ≡ Ok file) (l
         history_is = sym all.entries;
         ends = ends all.progress closed last.end tells (subst (λ (n : ℕ). IsEnd limits n closed last.end) (sym all.remaining) over.end_is);
         threads_are = over.threads_are ∙ tells_last.made_are;
-        rounds_are = over.rounds_are ∙ sym all.round;
+        rounds_are = (let a = over.rounds_are in let b = all.round in omega (arith, a, b));
         era_is = over.era_is ∙ sym all.last_era;
       }
