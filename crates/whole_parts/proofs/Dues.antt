@@ -1,6 +1,6 @@
 -- A round whose parts are those of the live threads, each with its share, is a round of threads that run at once.
-use Rattle.std.proofs.Common.{◌≡◌, ◌≢◌, ◌<◌, ◌≤◌, ◌⊎◌, ℕ, zero, suc, ◌+◌, ◌-◌, min, Bool, true, false, cond, List, [], ◌∷◌, ◌++◌, length, Option, Some, None, inl, inr, refl, sym, ap, ap₂, subst, ◌∙◌, arith, eq-eqb}
-use Rattle.std.specs.Prelude.{◌/◌, ◌==◌, ◌&&◌, ◌||◌, nat_lt, map, filter, find, slice_get, is_some, is_none, All, Ok}
+use Rattle.std.proofs.Common.{◌≡◌, ◌<◌, ◌≤◌, ℕ, zero, suc, ◌+◌, min, Bool, true, false, cond, List, [], ◌∷◌, ◌++◌, length, Option, Some, None, inl, inr, refl, sym, ap, ap₂, subst, ◌∙◌, arith, eq-eqb}
+use Rattle.std.specs.Prelude.{◌/◌, ◌==◌, ◌&&◌, ◌||◌, nat_lt, map, find, slice_get, is_some, is_none, All, Ok}
 use Rattle.std.specs.List.{list_any}
 use Rattle.std.specs.Option.{option_or}
 use Rattle.std.proofs.lemmas.Bool.{cases_Bool, cases_eq, lt-ltb, ltb-true}
@@ -24,25 +24,24 @@ use Rattle.placed_detector.specs.Standing.{Hand, Held}
 use Rattle.run_record.specs.declared.entry.Label.{Label}
 use Rattle.turn_orders.proofs.Members.{at_member, all_members, filter_in, in_filter}
 use Rattle.turn_histories.specs.Rounds.{IsIn}
-use Rattle.slot_desk.specs.Desks.{thread_of, live_of}
 use Rattle.shared_table.specs.declared.object.DeskState.{DeskState}
 use Rattle.shared_table.specs.declared.view.Layout.{Layout}
 use Rattle.woven_turns.specs.Following.{left_after}
 use Rattle.deed_histories.specs.Lines.{HandDeed, IsHandDeed, entries_of}
 use Rattle.table_deeds.specs.Objects.{ObjectDeed, hand_deed, hand_deeds, part_in, held_at}
-use Rattle.table_deeds.specs.Rounds.{made_in, hands_in, IsTableRound}
+use Rattle.table_deeds.specs.Rounds.{made_in, IsTableRound}
 use Rattle.table_deeds.proofs.Listing.{thread_of_deed}
 use Rattle.table_deeds.proofs.Lines.{lines_up, all_left}
 use Rattle.hart_parts.specs.Parts.{Part, Try, HasEnded, IsStarved, left_in, steps_made, IsPart}
 use Rattle.hart_parts.specs.Rounds.{PartRound, table_round, IsPartRound}
-use Rattle.whole_parts.specs.Dues.{share, threads_of, LivesBy, IsDueRound}
+use Rattle.whole_parts.specs.Dues.{share, threads_of, IsDueRound}
 use Rattle.whole_parts.proofs.Standing.{bare, Stood}
-use Rattle.whole_parts.proofs.Listed.{Objects, Is, each_hand, deeds, line, listed, entries_are, same, listed_deeds, after_all, at_next}
+use Rattle.whole_parts.proofs.Listed.{Objects, Is, each_hand, deeds, line, listed, entries_are, same, listed_deeds, after_all}
 use Rattle.whole_parts.proofs.Tries.{in_of_get, may_find_none}
 use Rattle.whole_parts.proofs.Desks.{TellsOf, tells_of}
 use Rattle.whole_parts.proofs.New.{AreNew, line_new, threads_grow}
 use Rattle.whole_parts.proofs.Threads.{lives_inside, ended_dead, wants_needs, no_label}
-use Rattle.whole_parts.proofs.Seats.{part, seat, left, steps_are, TryStands, try_stands}
+use Rattle.whole_parts.proofs.Seats.{part, seat, left, steps_are, try_stands}
 
 -- ---- lists and tests
 

@@ -1,13 +1,13 @@
 -- A round at the table as its entries list it: what stands after all of them, and after the first ones.
-use Rattle.std.proofs.Common.{◌≡◌, ◌<◌, ◌≤◌, ℕ, ◌+◌, max, Bool, true, cond, List, [], ◌∷◌, ◌++◌, length, inl, inr, refl, sym, ap, subst, ◌∙◌, arith}
-use Rattle.std.specs.Prelude.{map, ◌==◌, IsPermutation, Ok}
+use Rattle.std.proofs.Common.{◌≡◌, ℕ, ◌+◌, cond, List, [], ◌∷◌, ◌++◌, refl, sym, ap, subst, ◌∙◌, arith}
+use Rattle.std.specs.Prelude.{◌==◌, IsPermutation, Ok}
 use Rattle.std.specs.List.Sorted.{apply_swaps, SwapsInRange}
 use Rattle.std.proofs.lemmas.List.{length-map}
 use mathlib.Core.Path.{fun_ext}
 use Rattle.run_record.specs.declared.entry.Entry.{Entry}
 use Rattle.run_record.specs.declared.limits.Limits.{Limits}
 use Rattle.elf_image.specs.File.{image_of}
-use Rattle.turn_orders.specs.Lists.{Each, In, InOrder, SameMembers}
+use Rattle.turn_orders.specs.Lists.{Each, SameMembers}
 use Rattle.turn_orders.specs.Machine.{State}
 use Rattle.turn_orders.specs.LineUp.{Deed, Stamped, of_thread, of_place, LocalsFollow, ValuesFollow, last_local, last_value, Before, IsSorted}
 use Rattle.turn_orders.proofs.Members.{at_member, all_members, each_append, each_parts, filter_append}

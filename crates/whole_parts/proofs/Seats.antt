@@ -1,8 +1,8 @@
 -- A part among the deeds of its round: its seat, its log, its deeds, its entries, and its last turn of the desk.
-use Rattle.std.proofs.Common.{◌≡◌, ◌≢◌, ◌<◌, ◌≤◌, ℕ, zero, suc, ◌+◌, ◌-◌, Bool, true, false, cond, List, [], ◌∷◌, ◌++◌, length, Option, Some, None, inl, inr, refl, sym, ap, ap₂, subst, ◌∙◌, arith, eq-eqb, ne_eqb, eqb-true, length-append}
-use Rattle.std.specs.Prelude.{◌==◌, nat_lt, map, filter, slice_get, sum_by}
+use Rattle.std.proofs.Common.{◌≡◌, ◌≢◌, ◌≤◌, ℕ, zero, suc, ◌+◌, ◌-◌, Bool, cond, List, [], ◌∷◌, ◌++◌, length, Option, Some, None, inl, inr, refl, sym, ap, ap₂, subst, ◌∙◌, arith, eq-eqb, ne_eqb, length-append}
+use Rattle.std.specs.Prelude.{◌==◌, nat_lt, map, filter, slice_get}
 use Rattle.std.specs.List.{AllZip, flat_map}
-use Rattle.std.proofs.lemmas.Bool.{cases_Bool, eqb-false, lt-ltb}
+use Rattle.std.proofs.lemmas.Bool.{cases_Bool, lt-ltb}
 use Rattle.std.proofs.lemmas.List.{append_assoc, append-nil}
 use mathlib.Core.Path.{fun_ext}
 use mathlib.Core.Option.{some}
@@ -11,7 +11,7 @@ use Rattle.run_record.specs.declared.entry.Entry.{Entry}
 use Rattle.run_record.specs.declared.limits.Limits.{Limits}
 use Rattle.run_laws.specs.Rounds.{steps_by, steps_in}
 use Rattle.bare_machine.specs.Step.{desk}
-use Rattle.turn_orders.specs.Lists.{Each, In, InOrder}
+use Rattle.turn_orders.specs.Lists.{Each, In}
 use Rattle.turn_orders.specs.Machine.{State}
 use Rattle.turn_orders.specs.LineUp.{Deed, Stamped, of_thread, last_local}
 use Rattle.turn_orders.proofs.Members.{at_member, filter_here, filter_not, filter_append}
@@ -21,12 +21,12 @@ use Rattle.shared_table.specs.declared.view.Item.{Item}
 use Rattle.shared_table.specs.declared.view.Item.TheVariants.{Split, Join, Take, Give, Load, Store}
 use Rattle.shared_table.specs.Past.{Past, Log, log_of}
 use Rattle.woven_turns.specs.Steps.{Stands}
-use Rattle.woven_turns.specs.Weave.{weave, first_deeds}
+use Rattle.woven_turns.specs.Weave.{first_deeds}
 use Rattle.woven_turns.specs.Following.{left_after}
 use Rattle.woven_turns.proofs.Weaving.{thread_all}
 use Rattle.woven_turns.proofs.Items.{item_stands}
 use Rattle.placed_detector.specs.Standing.{Hand}
-use Rattle.deed_histories.specs.Lines.{HandDeed, entries_of, IsHandDeed}
+use Rattle.deed_histories.specs.Lines.{entries_of}
 use Rattle.table_deeds.specs.Objects.{ObjectDeed, hand_deed, hand_deeds}
 use Rattle.table_deeds.specs.Listing.{AreApart}
 use Rattle.table_deeds.specs.Rounds.{made_in, IsTableRound}

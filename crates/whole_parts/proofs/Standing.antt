@@ -8,7 +8,7 @@ use Rattle.std.proofs.lemmas.Slice.Zip.{AllZip-long}
 use Rattle.run_record.specs.declared.entry.Entry.{Entry}
 use Rattle.run_record.specs.declared.limits.Limits.{Limits}
 use Rattle.elf_image.specs.File.{image_of}
-use Rattle.run_laws.specs.Moments.{NewEra, Moment, moment_at, entry_moments, moments_in, last_era}
+use Rattle.run_laws.specs.Moments.{Moment, moment_at, entry_moments, moments_in, last_era}
 use Rattle.run_laws.specs.Labels.{Labels, labels}
 use Rattle.run_laws.specs.Faithful.{Bare, after, state_after}
 use Rattle.run_laws.proofs.PresentLaw.{labels_now-push}
@@ -26,7 +26,7 @@ use Rattle.watched_turns.specs.Along.{StandFrom, IsWatched, StampedDeed, told_of
 use Rattle.watched_turns.specs.Rounds as eras
 use Rattle.turn_histories.specs.Entries.{IsTold}
 use Rattle.turn_histories.specs.Rounds.{IsIn, first_stamped}
-use Rattle.turn_histories.proofs.Rounds.{an_era, eras_in, moments_of, all_told}
+use Rattle.turn_histories.proofs.Rounds.{an_era, moments_of, all_told}
 use Rattle.turn_histories.proofs.Along.{world_over, AllFacts, Along, along}
 use Rattle.race_core.specs.Watched.{AreWatcherLimits}
 use Rattle.race_core.specs.History.{era_now}

@@ -1,14 +1,13 @@
 -- What a thread keeps says whether it lives in the world, what its next instruction needs, and whether it has a label.
-use Rattle.std.proofs.Common.{◌≡◌, ◌≢◌, ◌<◌, ◌≤◌, ◌⊎◌, ℕ, zero, suc, Bool, true, false, List, [], ◌∷◌, length, Option, Some, None, inl, inr, refl, sym, ap, subst, ◌∙◌, arith}
-use Rattle.std.specs.Prelude.{◌||◌, slice_get, is_some, not, option_map}
+use Rattle.std.proofs.Common.{◌≡◌, ◌<◌, ℕ, zero, suc, Bool, true, false, List, [], ◌∷◌, length, Option, Some, None, inl, inr, refl, sym, ap, subst, ◌∙◌, arith}
+use Rattle.std.specs.Prelude.{◌||◌, slice_get, not, option_map}
 use Rattle.std.specs.Option.{option_map_or}
 use Rattle.std.proofs.lemmas.Bool.{cases_Bool, cases_lt}
 use Rattle.run_record.specs.declared.entry.Entry.{Entry}
-use Rattle.run_record.specs.declared.entry.Label.{Label}
 use Rattle.run_record.specs.declared.limits.Limits.{Limits}
 use Rattle.run_laws.specs.Moments.{moments_in}
 use Rattle.run_laws.specs.Labels.{Labels}
-use Rattle.run_laws.specs.Present.{label_now, labels_now}
+use Rattle.run_laws.specs.Present.{label_now}
 use Rattle.run_laws.specs.Faithful.{state_after}
 use Rattle.bare_machine.specs.declared.thread.Thread.{Thread}
 use Rattle.bare_machine.specs.World.{World, lives}
@@ -19,7 +18,7 @@ use Rattle.turn_orders.specs.Lists.{Each}
 use Rattle.turn_orders.specs.LineUp.{plain}
 use Rattle.turn_orders.proofs.Members.{at_member}
 use Rattle.turn_laws.proofs.AlikeLaw.{labels-alike}
-use Rattle.place_turns.specs.Places.{Local, Value, desk_in}
+use Rattle.place_turns.specs.Places.{Local, desk_in}
 use Rattle.place_turns.specs.Wholes.{IsStateOf}
 use Rattle.joint_turns.specs.Along.{whole_of}
 use Rattle.joint_turns.specs.Joint.{bare_of}

@@ -1,5 +1,5 @@
 -- A turn of the desk that found no free slot: the history's queue was empty, no earlier than behind the thread's last entry there.
-use Rattle.std.proofs.Common.{◌≡◌, ◌≢◌, ◌<◌, ◌≤◌, ◌⊎◌, ℕ, zero, suc, ◌+◌, true, false, List, [], ◌∷◌, ◌++◌, length, take, Option, Some, None, inl, inr, refl, sym, ap, subst, ◌∙◌, arith, eq-eqb}
+use Rattle.std.proofs.Common.{◌≡◌, ◌<◌, ◌≤◌, ℕ, zero, suc, ◌+◌, false, List, [], ◌∷◌, ◌++◌, length, take, Some, inl, inr, refl, sym, ap, subst, ◌∙◌, arith, eq-eqb}
 use Rattle.std.specs.Prelude.{◌==◌, slice_get, Ok}
 use Rattle.std.proofs.lemmas.Bool.{cases_eq, cases_lt}
 use Rattle.run_record.specs.declared.entry.Entry.{Entry}
@@ -9,11 +9,10 @@ use Rattle.run_laws.specs.Moments.{moments_in}
 use Rattle.run_laws.specs.Present.{queue_now}
 use Rattle.run_laws.specs.Faithful.{AtOnce, state_after, state_before, object_of}
 use Rattle.run_laws.specs.Rounds.{Progress, MayFindNone}
-use Rattle.bare_machine.specs.World.{World}
 use Rattle.bare_machine.specs.Step.{desk}
-use Rattle.turn_orders.specs.Lists.{Each, In}
+use Rattle.turn_orders.specs.Lists.{In}
 use Rattle.turn_orders.specs.Machine.{State}
-use Rattle.turn_orders.specs.LineUp.{Stamped, Before, IsSorted, of_place, last_value}
+use Rattle.turn_orders.specs.LineUp.{Stamped, Before, IsSorted}
 use Rattle.turn_orders.proofs.Members.{at_member, each_parts}
 use Rattle.turn_laws.proofs.AlikeLaw.{queue-alike}
 use Rattle.joint_turns.specs.Joint.{Value}
@@ -24,7 +23,6 @@ use Rattle.turn_histories.proofs.Made.{Facts}
 use Rattle.turn_histories.proofs.Found.{ZipAt, each_fact, place_is}
 use Rattle.shared_table.specs.declared.object.Object.{Object}
 use Rattle.shared_table.specs.declared.view.Layout.{Layout}
-use Rattle.shared_table.specs.declared.view.Item.{Item}
 use Rattle.shared_table.specs.declared.view.Item.TheVariants.{Give}
 use Rattle.shared_table.specs.Layouts.{objects_of}
 use Rattle.shared_table.specs.Past.{Past, log_of}
@@ -37,15 +35,14 @@ use Rattle.woven_turns.proofs.Weaving.{in_parts, woven_told}
 use Rattle.woven_turns.proofs.Items.{item_in_log}
 use Rattle.woven_turns.proofs.Standing.{stands_more, lawful_at}
 use Rattle.woven_turns.proofs.Placing.{place_in_list}
-use Rattle.placed_detector.specs.Standing.{Hand}
-use Rattle.deed_histories.specs.Lines.{Tells, acts_of, entries_of, stamped_turn}
+use Rattle.deed_histories.specs.Lines.{acts_of, entries_of, stamped_turn}
 use Rattle.deed_histories.specs.Rounds.{hand_stamp}
 use Rattle.table_deeds.specs.Objects.{ObjectDeed, hand_deeds, hand_deed, slots_in, last_in, held_at}
 use Rattle.table_deeds.specs.Rounds.{TableRound, made_in, IsTableRound}
 use Rattle.table_deeds.proofs.Left.{value_left_is}
 use Rattle.table_deeds.proofs.Listing.{thread_of_deed}
 use Rattle.whole_parts.proofs.Standing.{bare, Stood, turns, facts}
-use Rattle.whole_parts.proofs.Listed.{Objects, Is, drew, listed, entries_are, same, sorted, all_drew, listed_deeds, Goes, all_goes, first_goes, after_first}
+use Rattle.whole_parts.proofs.Listed.{Objects, Is, listed, entries_are, same, sorted, all_drew, listed_deeds, Goes, all_goes, first_goes, after_first}
 
 -- ---- lists
 
@@ -115,7 +112,11 @@ module _ (file : List ℕ) (limits : Limits) where
       let rest = zip_get P (suc n) (next (stamped_turn file limits) m (call_of (stamped_turn file limits) acts_of (hand_deed file limits d))) ds z.1 j e q in
       let i : suc n + j ≡ n + suc j = omega arith in
       record {
-        deed = rest.deed; at = rest.at; entry = rest.entry; turn = rest.turn; place = rest.place;
+        deed = rest.deed;
+        at = rest.at;
+        entry = rest.entry;
+        turn = rest.turn;
+        place = rest.place;
         holds = subst (λ (k : ℕ). P k rest.turn e) i rest.holds;
       }
 

@@ -1,22 +1,19 @@
 -- Rounds of parts that are due are a whole run of threads that run at once.
-use Rattle.std.proofs.Common.{◌≡◌, ◌<◌, ◌≤◌, ◌⊎◌, ℕ, zero, suc, ◌+◌, ◌-◌, min, Bool, true, false, cond, List, [], ◌∷◌, ◌++◌, length, Option, Some, None, inl, inr, refl, sym, ap, ap₂, subst, ◌∙◌, arith}
-use Rattle.std.specs.Prelude.{◌/◌, nat_lt, Ok}
+use Rattle.std.proofs.Common.{◌≡◌, ℕ, ◌+◌, min, Bool, cond, List, [], ◌∷◌, ◌++◌, length, Some, inl, inr, refl, sym, ap, subst, ◌∙◌, arith}
+use Rattle.std.specs.Prelude.{◌/◌, Ok}
 use Rattle.std.specs.List.{list_any}
 use Rattle.std.proofs.lemmas.List.{append_assoc, append-nil}
 use Rattle.run_record.specs.declared.entry.Entry.{Entry}
 use Rattle.run_record.specs.declared.limits.Limits.{Limits}
 use Rattle.run_record.specs.declared.finished.GuestEnd.{GuestEnd}
-use Rattle.run_record.specs.declared.finished.GuestEnd.TheVariants.{AllEnded, Budget}
 use Rattle.run_record.specs.declared.finished.LastState.{LastState}
 use Rattle.run_record.specs.declared.plan.Turn.{Turn}
 use Rattle.elf_image.specs.File.{image_of}
 use Rattle.run_laws.specs.Faithful.{AtOnce, state_after}
-use Rattle.run_laws.specs.Rounds.{Progress, Due, at_start, dues, live_in, steps_in, is_starved, after_round, end_in, Reaches, Start, Round, Ends}
+use Rattle.run_laws.specs.Rounds.{Progress, at_start, dues, live_in, is_starved, after_round, Reaches, Start, Round, Ends}
 use Rattle.run_laws.specs.Lawful.{IsWholeRun}
-use Rattle.bare_machine.specs.World.{World}
 use Rattle.bare_machine.specs.Step.{desk}
 use Rattle.turn_histories.specs.Rounds.{all_entries}
-use Rattle.slot_desk.specs.Desks.{live_of}
 use Rattle.shared_table.specs.declared.object.DeskState.{DeskState}
 use Rattle.shared_table.specs.declared.view.Layout.{Layout}
 use Rattle.race_core.specs.Watched.{AreWatcherLimits}
@@ -25,7 +22,7 @@ use Rattle.table_deeds.specs.Rounds.{made_in, last_stamp, AreTableRounds}
 use Rattle.woven_turns.specs.Following.{left_after}
 use Rattle.table_deeds.proofs.First.{first_kept}
 use Rattle.hart_parts.specs.Rounds.{PartRound, table_round, table_rounds, ArePartRounds}
-use Rattle.whole_parts.specs.Dues.{share, AreDueRounds, entries_by_part_round, state_after_rounds, remaining_after, era_of_last, IsEnd, IsOver}
+use Rattle.whole_parts.specs.Dues.{AreDueRounds, entries_by_part_round, state_after_rounds, remaining_after, era_of_last, IsEnd, IsOver}
 use Rattle.whole_parts.proofs.Standing.{bare, Stood, first_stood}
 use Rattle.whole_parts.proofs.Listed.{Objects, at_next}
 use Rattle.whole_parts.proofs.Desks.{TellsOf, tells_of}

@@ -11,7 +11,6 @@ use Rattle.bare_machine.specs.Step.{desk}
 use Rattle.turn_orders.specs.Lists.{Each, In}
 use Rattle.turn_orders.specs.Machine.{State}
 use Rattle.turn_orders.specs.LineUp.{Stamped}
-use Rattle.turn_histories.specs.Rounds.{all_entries}
 use Rattle.slot_desk.specs.Desks.{thread_of, live_of}
 use Rattle.shared_table.specs.declared.object.DeskState.{DeskState}
 use Rattle.shared_table.specs.declared.object.Object.{Object}
