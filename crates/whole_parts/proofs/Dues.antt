@@ -56,7 +56,9 @@ module _ {X : Type 0} (p : X → Bool) where
   any_in [] q = absurd (cc)
   any_in (x ∷ xs) q = elim (cases_Bool (p x)) [
     | inl holds ↦ record { it = x; in_list = inl refl; passes = holds }
-    | inr fails ↦ (let rest = any_in xs (sym (ap (λ (b : Bool). b || list_any p xs) fails) ∙ q) in record { it = rest.it; in_list = inr rest.in_list; passes = rest.passes })
+    | inr fails ↦
+        let rest = any_in xs (sym (ap (λ (b : Bool). b || list_any p xs) fails) ∙ q) in
+        record { it = rest.it; in_list = inr rest.in_list; passes = rest.passes }
   ]
 
   pub in_any : (xs : List X) (x : X) → In x xs → p x ≡ true → list_any p xs ≡ true
@@ -244,7 +246,8 @@ module _ (file : List ℕ) (limits : Limits) where
       -- a part that was starved is that of a thread which the history has as starved
       starved : steps_made file limits q < q.given → IsStarved file limits q → is_starved limits (bare file limits) p r.entries it ≡ true
       starved few st =
-          let wants = wants_needs file limits left_there p.round p.era (p.entries ++ r.entries) ended new_then t (left_in q).state.bare.thread its_thread st.wants still_made in
+          let wants = wants_needs file limits left_there p.round p.era (p.entries ++ r.entries) ended new_then t
+          (left_in q).state.bare.thread its_thread st.wants still_made in
           let unlabelled : (left_there.local t).state.watched.label ≡ None =
           ap (λ (l : Stamped Hand). l.state.watched.label) its_left ∙ st.unlabelled in
           let none = no_label file limits left_there p.round p.era (p.entries ++ r.entries) ended new_then t unlabelled in
@@ -388,4 +391,5 @@ module _ (file : List ℕ) (limits : Limits) where
     goes_on = end_none w (sym tells.ended_is ∙ is_due.goes_on) (let a = is_due.some_live in let b = tells.live_are in omega (arith, a, b))
 
     pub gives : list_any (λ (d : Due). nat_lt 0 d.given) (dues AtOnce limits (bare file limits) p) ≡ true
-    gives = gives_some given live (let a = is_due.some_given in let b = given_is in omega (arith, a, b)) (let a = is_due.some_live in let b = tells.live_are in omega (arith, a, b))
+    gives = gives_some given live (let a = is_due.some_given in let b = given_is in omega (arith, a, b))
+        (let a = is_due.some_live in let b = tells.live_are in omega (arith, a, b))

@@ -8,5 +8,6 @@ pub mod New
 pub mod Threads
 pub mod Seats
 pub mod Dues
+pub mod Opened
 pub mod Vain
 pub mod Whole

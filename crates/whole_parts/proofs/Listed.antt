@@ -71,11 +71,13 @@ module _ (file : List ℕ) (limits : Limits) where
   abbrev pub Is : ℕ → ObjectDeed → Type 0
   Is era d = IsHandDeed file limits era (hand_deed file limits d)
 
-  pub each_hand : (P : HandDeed → Type 0) (ds : List ObjectDeed) → Each (λ (d : ObjectDeed). P (hand_deed file limits d)) ds → Each P (hand_deeds file limits ds)
+  pub each_hand : (P : HandDeed → Type 0) (ds : List ObjectDeed) → Each (λ (d : ObjectDeed). P (hand_deed file limits d)) ds →
+      Each P (hand_deeds file limits ds)
   each_hand P [] h = tt
   each_hand P (d ∷ ds) h = (h.0, each_hand P ds h.1)
 
-  pub hands_append : (xs ys : List ObjectDeed) → entries_of (hand_deeds file limits (xs ++ ys)) ≡ entries_of (hand_deeds file limits xs) ++ entries_of (hand_deeds file limits ys)
+  pub hands_append : (xs ys : List ObjectDeed) →
+      entries_of (hand_deeds file limits (xs ++ ys)) ≡ entries_of (hand_deeds file limits xs) ++ entries_of (hand_deeds file limits ys)
   hands_append [] ys = refl
   hands_append (x ∷ xs) ys = ap (λ (es : List Entry). x.told.entry ∷ es) (hands_append xs ys)
 
@@ -181,7 +183,8 @@ module _ (file : List ℕ) (limits : Limits) where
       pub after_first : (ds : List ObjectDeed) → Goes ds →
           Stood file limits (held_at file limits (left_after m ds)) round era (done ++ entries_of (hand_deeds file limits ds))
       after_first ds g =
-          subst (λ (c : State (Stamped Hand) (Stamped Held)). Stood file limits c round era (done ++ entries_of (hand_deeds file limits ds))) (all_left file limits m ds)
+          subst (λ (c : State (Stamped Hand) (Stamped Held)). Stood file limits c round era (done ++ entries_of (hand_deeds file limits ds)))
+          (all_left file limits m ds)
           (goes_on file limits ok (held_at file limits m) round era done s (hand_deeds file limits ds) g.line g.made g.inside)
 
       -- and after all of them
@@ -191,7 +194,8 @@ module _ (file : List ℕ) (limits : Limits) where
           same_left m listed (made_in r) (λ t. sym (threads_same t))
           (λ k. sym (same_place hand_stamp last_in m (made_in r) listed all_drew line sorted same k)) in
           subst (λ (x : Objects). Stood file limits (held_at file limits x) round era (done ++ r.entries)) left
-          (subst (λ (es : List Entry). Stood file limits (held_at file limits (left_after m listed)) round era (done ++ es)) entries_are (after_first listed all_goes))
+          (subst (λ (es : List Entry). Stood file limits (held_at file limits (left_after m listed)) round era (done ++ es)) entries_are
+          (after_first listed all_goes))
 
       -- and when the next round begins
       pub at_next : Stood file limits (held_at file limits r.next) (round + 1) (cond r.ends (era + 1) era) (done ++ r.entries)

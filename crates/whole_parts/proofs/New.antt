@@ -89,7 +89,8 @@ module _ (file : List ℕ) (limits : Limits) where
   line_new era (d ∷ ds) c line each n =
       let here : AreNew ((left_by c d).value desk).state.bare = dite (ℕ_discrete desk d.call.place)
       (λ e. subst (λ (x : Stamped Held). AreNew x.state.bare) (sym (but_here c.value d.call.place desk d.left e))
-      (deed_new file limits era d.call.thread d.call.place d.local_found.state d.local_left.state d.found.state d.left.state d.told.entry d.told.acts each.0.deed
+      (deed_new file limits era d.call.thread d.call.place d.local_found.state d.local_left.state d.found.state d.left.state
+      d.told.entry d.told.acts each.0.deed
       (subst (λ (x : Stamped Held). AreNew x.state.bare) (ap c.value e ∙ found_value c d ds line) n)))
       (λ ne. subst (λ (x : Stamped Held). AreNew x.state.bare) (sym (but_else c.value d.call.place desk d.left ne)) n) in
       line_new era ds (left_by c d) (rest_lines c d ds line) each.1 here
@@ -148,8 +149,10 @@ module _ (file : List ℕ) (harts : ℕ) where
   fold_grows w (e ∷ es) = (let l = after_grows w e.tid e.steps in let m = fold_grows (after (bare_of file harts) w e.tid e.steps) es in omega (arith, l, m))
 
   -- entries leave no fewer threads
-  pub threads_grow : (earlier es : List Entry) → length (state_after (bare_of file harts) earlier).threads ≤ length (state_after (bare_of file harts) (earlier ++ es)).threads
+  pub threads_grow : (earlier es : List Entry) →
+      length (state_after (bare_of file harts) earlier).threads ≤ length (state_after (bare_of file harts) (earlier ++ es)).threads
   threads_grow earlier es =
-      let q = ap (λ (w : World). length w.threads) (fold-append (λ (s : World) (e : Entry). after (bare_of file harts) s e.tid e.steps) (start file harts) earlier es) in
+      let q = ap (λ (w : World). length w.threads)
+      (fold-append (λ (s : World) (e : Entry). after (bare_of file harts) s e.tid e.steps) (start file harts) earlier es) in
       let l = fold_grows (state_after (bare_of file harts) earlier) es in
       omega (arith, q, l)

@@ -76,7 +76,8 @@ no_tags : (log : Log) (j : ℕ) → tags_along [] log j ≡ []
 no_tags [] j = refl
 no_tags (x ∷ log) j = refl
 
-module _ (ds : List ObjectDeed) (log : Log) (f : ℕ → List ObjectDeed) (later : (j : ℕ) → f (suc j) ≡ tags_along ds log j) (all : first_deeds (tags_along ds log) (length log) ≡ ds) where
+module _ (ds : List ObjectDeed) (log : Log) (f : ℕ → List ObjectDeed) (later : (j : ℕ) → f (suc j) ≡ tags_along ds log j)
+    (all : first_deeds (tags_along ds log) (length log) ≡ ds) where
   shifted : first_deeds f (suc (length log)) ≡ f 0 ++ ds
   shifted = from_front (length log) f
       ∙ ap (λ (xs : List ObjectDeed). f 0 ++ xs)
@@ -123,7 +124,8 @@ last_item (x ∷ xs) y = last_item xs y
 
 -- ---- the parts of a round
 
-seat_is : (ps : List Part) (first i : ℕ) (q : Part) → AreApart (map (λ (p : Part). p.thread) ps) → slice_get ps i ≡ Some q → seat_from first ps q.thread ≡ first + i
+seat_is : (ps : List Part) (first i : ℕ) (q : Part) → AreApart (map (λ (p : Part). p.thread) ps) → slice_get ps i ≡ Some q →
+    seat_from first ps q.thread ≡ first + i
 seat_is [] first i q o at = absurd (cc)
 seat_is (p ∷ ps) first zero q o at =
     let e : p ≡ q = cc in
@@ -184,7 +186,8 @@ module _ (m : State (Stamped Hand) Object) where
   alone_is (p ∷ ps) (suc i) q o at =
       let other : p.thread ≢ q.thread = at_member (λ (t : ℕ). p.thread ≢ t) q.thread (map (λ (x : Part). x.thread) ps) o.0 (in_thread ps i q at) in
       filter_append (λ (d : ObjectDeed). d.call.thread == q.thread) (rest_of p) (alone_of m ps)
-      ∙ (ap (λ (xs : List ObjectDeed). xs ++ of_thread q.thread (alone_of m ps)) (not_mine q.thread p.thread (at_last_object p) (m.value (desk + 1 + p.thread)) p.rest other)
+      ∙ (ap (λ (xs : List ObjectDeed). xs ++ of_thread q.thread (alone_of m ps))
+      (not_mine q.thread p.thread (at_last_object p) (m.value (desk + 1 + p.thread)) p.rest other)
       ∙ alone_is ps i q o.1 at)
     where
       in_thread : (xs : List Part) (j : ℕ) (y : Part) → slice_get xs j ≡ Some y → In y.thread (map (λ (x : Part). x.thread) xs)
@@ -280,7 +283,8 @@ module _ (file : List ℕ) (limits : Limits) where
         let rest = rest_deeds q.thread (at_last_object q) x q.rest in
         ap (filter (λ (e : Entry). e.tid == q.thread)) (sym (entries_are file limits lay round era m (table_round m r) table))
         ∙ (entries_of_thread era q.thread list (listed_deeds file limits lay round era m (table_round m r) table)
-        ∙ (ap (λ (ds : List ObjectDeed). entries_of (hand_deeds file limits ds)) (sym (threads_same file limits lay round era m (table_round m r) table q.thread) ∙ own)
+        ∙ (ap (λ (ds : List ObjectDeed). entries_of (hand_deeds file limits ds))
+        (sym (threads_same file limits lay round era m (table_round m r) table q.thread) ∙ own)
         ∙ (hands_append file limits q.deeds rest
         ∙ ap (λ (es : List Entry). entries_of (hand_deeds file limits q.deeds) ++ es) (rest_told file limits q.thread (at_last_object q) x q.rest))))
 

@@ -81,7 +81,8 @@ no_deed k i x d (e ∷ (y ∷ ds)) tagged in_ drawn = tagged
 
 module _ (file : List ℕ) (limits : Limits) where
   -- the first entries are those of the front
-  front_entries : (front back : List ObjectDeed) → take (length front) (entries_of (hand_deeds file limits (front ++ back))) ≡ entries_of (hand_deeds file limits front)
+  front_entries : (front back : List ObjectDeed) →
+      take (length front) (entries_of (hand_deeds file limits (front ++ back))) ≡ entries_of (hand_deeds file limits front)
   front_entries [] back = refl
   front_entries (x ∷ front) back = ap (λ (es : List Entry). x.told.entry ∷ es) (front_entries front back)
 
@@ -134,7 +135,8 @@ module _ (file : List ℕ) (limits : Limits) where
     all : Goes file limits lay p.round p.era m r h list
     all = all_goes file limits lay p.round p.era m r h
 
-    each : ZipAt PlacedAt (length p.entries) (turns file limits ok (held_at file limits m) p.round p.era p.entries s (hand_deeds file limits list) all.line all.made all.inside) es
+    each : ZipAt PlacedAt (length p.entries)
+        (turns file limits ok (held_at file limits m) p.round p.era p.entries s (hand_deeds file limits list) all.line all.made all.inside) es
     each = each_fact file limits.harts (state_after (bare file limits) p.entries)
         (turns file limits ok (held_at file limits m) p.round p.era p.entries s (hand_deeds file limits list) all.line all.made all.inside) p.entries es refl
         (facts file limits ok (held_at file limits m) p.round p.era p.entries s (hand_deeds file limits list) all.line all.made all.inside)
@@ -152,7 +154,8 @@ module _ (file : List ℕ) (limits : Limits) where
         let are = entries_are file limits lay p.round p.era m r h in
         let it = zip_get PlacedAt (length p.entries) s.watched list each j e (ap (λ (xs : List Entry). slice_get xs j) are ∙ q) in
         let w = state_before (bare file limits) (p.entries ++ r.entries) (length p.entries + j) in
-        let f = subst (λ (xs : List Entry). Facts file limits.harts (state_before (bare file limits) (p.entries ++ xs) (length p.entries + j)) e e.tid it.turn.call.place) are it.holds in
+        let f = subst (λ (xs : List Entry). Facts file limits.harts
+        (state_before (bare file limits) (p.entries ++ xs) (length p.entries + j)) e e.tid it.turn.call.place) are it.holds in
         let at_k = subst (IsPlaceOf it.turn.call.place e.tid) o (place_is file limits.harts w e it.turn.call.place f) in
         let made = at_member (Is file limits p.era) it.deed list (listed_deeds file limits lay p.round p.era m r h) (in_of_get list j it.deed it.at) in
         record {
@@ -178,7 +181,8 @@ module _ (file : List ℕ) (limits : Limits) where
       first_entries : entries_of (hand_deeds file limits place.front) ≡ take k r.entries
       first_entries = sym (front_entries place.front place.back) ∙ ap (take k) whole_entries
 
-      stood_there : Stood file limits (held_at file limits (left_after m place.front)) p.round p.era (p.entries ++ entries_of (hand_deeds file limits place.front))
+      stood_there : Stood file limits (held_at file limits (left_after m place.front)) p.round p.era
+          (p.entries ++ entries_of (hand_deeds file limits place.front))
       stood_there = after_first file limits lay p.round p.era m r h ok p.entries s place.front
           (first_goes file limits lay p.round p.era m r h place.front place.back place.whole)
 
@@ -189,7 +193,8 @@ module _ (file : List ℕ) (limits : Limits) where
       queue_is : queue_now limits.epochs limits.slots (moments_in p.round p.era (p.entries ++ take k r.entries)) ≡ (slots_in limits found).queue
       queue_is =
           ap (λ (xs : List Entry). queue_now limits.epochs limits.slots (moments_in p.round p.era (p.entries ++ xs))) (sym first_entries)
-          ∙ (sym (queue-alike limits.epochs limits.slots stood_there.history (moments_in p.round p.era (p.entries ++ entries_of (hand_deeds file limits place.front))) stood_there.alike)
+          ∙ (sym (queue-alike limits.epochs limits.slots stood_there.history
+          (moments_in p.round p.era (p.entries ++ entries_of (hand_deeds file limits place.front))) stood_there.alike)
           ∙ (sym stood_there.stands.standing.kept.desk.desk.same_queue
           ∙ ap (λ (x : Object). (slots_in limits x).queue) there))
 
@@ -227,7 +232,9 @@ module _ (file : List ℕ) (limits : Limits) where
             let told = subst (λ (x : ℕ). In d (r.tag x w.index)) same_seat w.told in
             let below = subst (λ (x : ℕ). w.index < length (log_of x r.late)) same_seat w.within in
             record { seat = n; index = w.index; within = before_last d w.index drawn told below; told = told }
-        | inr j ↦ absurd (let far = at_member (λ (y : ObjectDeed). objects_of lay ≤ y.call.place) d r.alone h.worked.private j in let near = objects in omega (arith, far, near, at))
+        | inr j ↦ absurd (
+            let far = at_member (λ (y : ObjectDeed). objects_of lay ≤ y.call.place) d r.alone h.worked.private j in
+            let near = objects in omega (arith, far, near, at))
       ]
 
       -- The thread may find no slot: the queue was empty after the first k entries, and its own entries at the desk are among these.

@@ -42,7 +42,8 @@ module _ (file : List ℕ) (limits : Limits) (ok : image_of file ≡ Ok file) (l
       let last = era_behind (cond x.ends (era + 1) era) rs in record {
         state = rest.state;
         stood = subst (λ (n : ℕ). Stood file limits (held_at file limits rest.state) n last (done ++ (x.entries ++ all_entries (entries_by_round rs)))) z
-            (subst (Stood file limits (held_at file limits rest.state) (round + 1 + length rs) last) (append_assoc done x.entries (all_entries (entries_by_round rs))) rest.stood);
+            (subst (Stood file limits (held_at file limits rest.state) (round + 1 + length rs) last)
+            (append_assoc done x.entries (all_entries (entries_by_round rs))) rest.stood);
         is_round = subst (λ (n : ℕ). IsTableRound file limits lay n last rest.state r) z rest.is_round;
       }
 

@@ -64,11 +64,13 @@ module _ (file : List ℕ) (limits : Limits) (ok : image_of file ≡ Ok file) (l
       Round p part reached (goes_on file limits ok lay p m r are.1 table s new all.0) (gives file limits ok lay p m r are.1 table s new all.0)
       (is_round file limits ok lay p m r are.1 table s new all.0) in
       let at_end = at_next file limits lay p.round p.era m t table ok p.entries s in
-      let stood_one = subst (λ (b : Bool). Stood file limits (held_at file limits r.next) (p.round + 1) (cond b (p.era + 1) p.era) (p.entries ++ part)) (sym same) at_end in
+      let stood_one = subst (λ (b : Bool). Stood file limits (held_at file limits r.next) (p.round + 1) (cond b (p.era + 1) p.era) (p.entries ++ part))
+      (sym same) at_end in
       let new_one = next_new file limits r.ends ((left_after m (made_in t)).value desk) (r.next.value desk) table.onward.desk_is
       (new_then file limits ok lay p m r are.1 table s new all.0) in
       let are_one = subst (λ (b : Bool). ArePartRounds file limits lay (p.round + 1) (cond b (p.era + 1) p.era) (last_stamp t) r.next rs) (sym same) are.2 in
-      let tables_one = subst (λ (b : Bool). AreTableRounds file limits lay (p.round + 1) (cond b (p.era + 1) p.era) (last_stamp t) r.next (table_rounds r.next rs)) (sym same) tables.2 in
+      let tables_one = subst (λ (b : Bool). AreTableRounds file limits lay (p.round + 1) (cond b (p.era + 1) p.era) (last_stamp t) r.next
+      (table_rounds r.next rs)) (sym same) tables.2 in
       let rest = comes rs one (last_stamp t) r.next reached_one stood_one new_one are_one tables_one all.1 in
       record {
         progress = rest.progress;
@@ -109,12 +111,9 @@ module _ (file : List ℕ) (limits : Limits) (ok : image_of file ≡ Ok file) (l
     entries_made = all_entries (entries_by_part_round rs)
 
     module _ (closed : DeskState) (last : LastState) (over : IsOver limits m rs closed last) where
+      -- the last desk says what the world after all entries has
       tells : TellsOf file limits closed (state_after (bare file limits) all.progress.entries)
       tells = tells_of file limits (state_after_rounds m rs) all.progress.round all.progress.era all.progress.entries all.stood closed over.at_desk
-
-      -- the last desk says what the world after all entries has
-      pub tells_last : TellsOf file limits closed (state_after (bare file limits) entries_made)
-      tells_last = subst (λ (es : List Entry). TellsOf file limits closed (state_after (bare file limits) es)) all.entries tells
 
       -- and the rounds are a whole run
       pub whole : IsWholeRun AtOnce limits plan (bare file limits) entries_made last
@@ -123,7 +122,7 @@ module _ (file : List ℕ) (limits : Limits) (ok : image_of file ≡ Ok file) (l
         reached = all.reached;
         history_is = sym all.entries;
         ends = ends all.progress closed last.end tells (subst (λ (n : ℕ). IsEnd limits n closed last.end) (sym all.remaining) over.end_is);
-        threads_are = over.threads_are ∙ tells_last.made_are;
+        threads_are = over.threads_are ∙ (tells.made_are ∙ ap (λ (es : List Entry). length (state_after (bare file limits) es).threads) all.entries);
         rounds_are = (let a = over.rounds_are in let b = all.round in omega (arith, a, b));
         era_is = over.era_is ∙ sym all.last_era;
       }

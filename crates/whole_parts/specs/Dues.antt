@@ -82,7 +82,8 @@ IsEnd limits remaining d end =
 
 -- After the rounds the run is over with this last state, which tells how many threads the desk has, how many rounds were made, and
 -- the era of the last one.
-pub record IsOver (limits : Limits) (m : State (Stamped Hand) Object) (rs : List PartRound) (closed : DeskState) (last : LastState) : Type 0 where
+pub record IsOver (limits : Limits) (m : State (Stamped Hand) Object) (rs : List PartRound)
+    (closed : DeskState) (last : LastState) : Type 0 where
   pub at_desk : HasDesk ((state_after_rounds m rs).value desk) closed
   pub end_is : IsEnd limits (remaining_after limits.steps rs) closed last.end
   pub threads_are : last.threads ≡ length closed.machine.made
