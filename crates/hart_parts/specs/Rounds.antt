@@ -1,6 +1,6 @@
 -- Rounds of parts at the shared table.
-use Rattle.std.specs.Prelude.{◌≡◌, ◌⊎◌, ◌<◌, ◌≤◌, ◌+◌, ◌-◌, ℕ, Bool, if◌then◌else◌, IsPermutation, List, [], ◌∷◌, ◌++◌, length, map, flat_map, slice_get, Option, None, Some}
-use Rattle.std.specs.Prelude.{nat_lt, ◌==◌}
+use Rattle.std.specs.Prelude.{◌≡◌, ◌<◌, ◌≤◌, ◌+◌, ℕ, zero, suc, Bool, if◌then◌else◌, IsPermutation, List, [], ◌∷◌, ◌++◌, length, map, flat_map, take, drop, slice_get, None, Some}
+use Rattle.std.specs.Prelude.{◌==◌}
 use mathlib.Core.Option.{some}
 use lib.ListN.{get_elem?}
 use Rattle.run_record.specs.declared.limits.Limits.{Limits}
@@ -39,13 +39,22 @@ pub record PartRound : Type 0 where
   pub ends : Bool
   pub next : State (Stamped Hand) Object
 
--- A give has the next of the deeds, where it left another value than it found or the deed says that value; other items have none.
--- (So it is told along the log; a give without a deed is that of a turn which found no slot, behind all deeds.)
+-- the deed of an item: a give has the first of those that are left, if there is one; no other item has any
+abbrev pub told_at : List ObjectDeed → Item → List ObjectDeed
+told_at ds (Give k i found left) = take 1 ds
+told_at ds _ = []
+
+-- the deeds that are left for the items behind it
+abbrev pub told_after : List ObjectDeed → Item → List ObjectDeed
+told_after ds (Give k i found left) = drop 1 ds
+told_after ds _ = ds
+
+-- Along a log each give has the next of the deeds, so long as there is one. (A give behind all deeds has none: it is that of a turn
+-- which found no slot.)
 abbrev pub tags_along : List ObjectDeed → Log → ℕ → List ObjectDeed
 tags_along ds [] j = []
-tags_along [] (x ∷ log) j = []
-tags_along (d ∷ ds) (Give k i found left ∷ log) j = if nat_lt 0 j then tags_along ds log (j - 1) else d ∷ []
-tags_along (d ∷ ds) (x ∷ log) j = if nat_lt 0 j then tags_along (d ∷ ds) log (j - 1) else []
+tags_along ds (x ∷ log) zero = told_at ds x
+tags_along ds (x ∷ log) (suc j) = tags_along (told_after ds x) log j
 
 -- what the seat of that number tells of its items, where the parts have the seats from `first` on
 abbrev pub tag_from : ℕ → List Part → Tags (Stamped Hand) (Unit {0}) Tells
