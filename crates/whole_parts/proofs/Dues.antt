@@ -1,6 +1,6 @@
 -- A round whose parts are those of the live threads, each with its share, is a round of threads that run at once.
 use Rattle.std.proofs.Common.{◌≡◌, ◌<◌, ◌≤◌, ℕ, zero, suc, ◌+◌, min, Bool, true, false, cond, List, [], ◌∷◌, ◌++◌, length, Option, Some, None, inl, inr, refl, sym, ap, ap₂, subst, ◌∙◌, arith, eq-eqb}
-use Rattle.std.specs.Prelude.{◌/◌, ◌==◌, ◌&&◌, ◌||◌, nat_lt, map, find, slice_get, is_some, is_none, All, Ok}
+use Rattle.std.specs.Prelude.{◌/◌, ◌==◌, ◌&&◌, ◌||◌, nat_lt, map, find, is_some, is_none, All, Ok}
 use Rattle.std.specs.List.{list_any}
 use Rattle.std.specs.Option.{option_or}
 use Rattle.std.proofs.lemmas.Bool.{cases_Bool, cases_eq, lt-ltb, ltb-true}
@@ -37,11 +37,12 @@ use Rattle.hart_parts.specs.Rounds.{PartRound, table_round, IsPartRound}
 use Rattle.whole_parts.specs.Dues.{share, threads_of, IsDueRound}
 use Rattle.whole_parts.proofs.Standing.{bare, Stood}
 use Rattle.whole_parts.proofs.Listed.{Objects, Is, each_hand, deeds, line, listed, entries_are, same, listed_deeds, after_all}
-use Rattle.whole_parts.proofs.Tries.{in_of_get, may_find_none}
+use Rattle.whole_parts.proofs.Tries.{may_find_none}
 use Rattle.whole_parts.proofs.Desks.{TellsOf, tells_of}
 use Rattle.whole_parts.proofs.New.{AreNew, line_new, threads_grow}
 use Rattle.whole_parts.proofs.Threads.{lives_inside, ended_dead, wants_needs, no_label}
-use Rattle.whole_parts.proofs.Seats.{part, seat, left, steps_are, try_stands}
+use Rattle.hart_parts.proofs.Rounds.{part_is, part_left, round_is}
+use Rattle.whole_parts.proofs.Seats.{n, steps_are, try_stands}
 
 -- ---- lists and tests
 
@@ -106,16 +107,6 @@ from_map f [] y i = absurd i
 from_map f (x ∷ xs) y (inl e) = record { it = x; in_list = inl refl; is = e }
 from_map f (x ∷ xs) y (inr i) = (let r = from_map f xs y i in record { it = r.it; in_list = inr r.in_list; is = r.is })
 
--- where a member stands
-record Place {X : Type 0} (xs : List X) (x : X) : Type 0 where
-  number : ℕ
-  at : slice_get xs number ≡ Some x
-
-place_of : {X : Type 0} (xs : List X) (x : X) → In x xs → Place xs x
-place_of [] x i = absurd i
-place_of (y ∷ ys) x (inl e) = record { number = 0; at = ap Some (sym e) }
-place_of (y ∷ ys) x (inr i) = (let r = place_of ys x i in record { number = suc r.number; at = r.at })
-
 in_numbers : (k n t : ℕ) → k ≤ t → t < k + n → In t (up_from k n)
 in_numbers k zero t a b = absurd (omega (arith, a, b))
 in_numbers k (suc n) t a b = elim (cases_eq t k) [
@@ -166,9 +157,12 @@ module _ (file : List ℕ) (limits : Limits) where
       ap (λ (b : Bool). b || list_any (λ (d : Due). nat_lt 0 d.given) (map (due given) ts)) (ap (nat_lt 0) z) ∙ gives_none given ts z
 
   module _ (ok : image_of file ≡ Ok file) (lay : Layout) (p : Progress) (m : Objects file limits) (r : PartRound)
-      (h : IsPartRound file limits lay p.round p.era m r) (table : IsTableRound file limits lay p.round p.era m (table_round m r))
+      (h : IsPartRound file limits lay p.round p.era m r)
       (s : Stood file limits (held_at file limits m) p.round p.era p.entries) (new : AreNew (part_in file desk (m.value desk)))
       (is_due : IsDueRound limits p.remaining m r) where
+    table : IsTableRound file limits lay p.round p.era m (table_round m r)
+    table = round_is file limits lay p.round p.era m r h
+
     abbrev opened : DeskState
     opened = is_due.opened
 
@@ -215,7 +209,7 @@ module _ (file : List ℕ) (limits : Limits) where
 
     -- ---- one part
 
-    module _ (i : ℕ) (q : Part) (at : slice_get r.parts i ≡ Some q) where
+    module _ (q : Part) (i : In q r.parts) where
       abbrev t : ℕ
       t = q.thread
 
@@ -223,16 +217,16 @@ module _ (file : List ℕ) (limits : Limits) where
       it = due q.given t
 
       its : IsPart file limits p.era q
-      its = part file limits lay p.round p.era m r h table i q at
+      its = part_is file limits lay p.round p.era m r h q i
 
       its_steps : steps_by t r.entries ≡ steps_made file limits q
-      its_steps = steps_are file limits lay p.round p.era m r h table i q at
+      its_steps = steps_are file limits lay p.round p.era m r h q i
 
       its_left : left_there.local t ≡ left_in q
-      its_left = left file limits lay p.round p.era m r h table i q at
+      its_left = part_left file limits lay p.round p.era m r h q i
 
       in_round : In t (threads_of r)
-      in_round = in_map (λ (x : Part). x.thread) r.parts q (in_of_get r.parts i q at)
+      in_round = in_map (λ (x : Part). x.thread) r.parts q i
 
       still_made : t < length later.threads
       still_made =
@@ -258,9 +252,9 @@ module _ (file : List ℕ) (limits : Limits) where
 
       found_none : IsStarved file limits q → MayFindNone AtOnce limits (bare file limits) p r.entries t
       found_none st =
-          let stands = try_stands file limits lay p.round p.era m r h table i q at st.try_ st.tried in
-          may_find_none file limits ok lay p m (table_round m r) table s (r.first_seat + i) st.try_.number t st.try_.found stands.made stands.stands stands.last
-          (seat file limits lay p.round p.era m r h table i q at) st.none_free
+          let stands = try_stands file limits lay p.round p.era m r h q i st.try_ st.tried in
+          may_find_none file limits ok lay p m (table_round m r) table s (n file limits lay p.round p.era m r h q i) st.try_.number t st.try_.found
+          stands.made stands.stands stands.last refl st.none_free
 
       dead : HasEnded (left_in q).state.bare.thread → lives later t ≡ false
       dead gone = ended_dead file limits left_there p.round p.era (p.entries ++ r.entries) ended new_then t (left_in q).state.bare.thread its_thread gone
@@ -297,28 +291,25 @@ module _ (file : List ℕ) (limits : Limits) where
       -- what it is given is what is due
       pub given_due : it ≡ due given t
       given_due =
-          let is_share = at_member (λ (x : Part). x.given ≡ share limits p.remaining opened) q r.parts is_due.shares (in_of_get r.parts i q at) in
+          let is_share = at_member (λ (x : Part). x.given ≡ share limits p.remaining opened) q r.parts is_due.shares i in
           ap (λ (n : ℕ). due n t) (is_share ∙ sym given_is)
 
     -- ---- all of the round
 
     -- the part of a due
     record PartOf (d : Due) : Type 0 where
-      number : ℕ
       its_part : Part
-      at : slice_get r.parts number ≡ Some its_part
+      in_list : In its_part r.parts
       is : due its_part.given its_part.thread ≡ d
 
     part_of : (d : Due) → In d (dues AtOnce limits (bare file limits) p) → PartOf d
     part_of d i =
         let a = from_map (due given) live d i in
         let b = from_map (λ (x : Part). x.thread) r.parts a.it (live_part a.it a.in_list) in
-        let c = place_of r.parts b.it b.in_list in
         record {
-          number = c.number;
           its_part = b.it;
-          at = c.at;
-          is = given_due c.number b.it c.at ∙ (ap (due given) (sym b.is) ∙ sym a.is);
+          in_list = b.in_list;
+          is = given_due b.it b.in_list ∙ (ap (due given) (sym b.is) ∙ sym a.is);
         }
 
     due_of : (t : ℕ) → In t (threads_of r) → In (due given t) (dues AtOnce limits (bare file limits) p)
@@ -330,15 +321,14 @@ module _ (file : List ℕ) (limits : Limits) where
         (λ holds.
         let a = any_in (is_starved limits (bare file limits) p r.entries) (dues AtOnce limits (bare file limits) p) holds in
         let b = part_of a.it a.in_list in
-        let one = starved_tried b.number b.its_part b.at (subst (λ (d : Due). is_starved limits (bare file limits) p r.entries d ≡ true) (sym b.is) a.passes) in
-        is_due.ends_is ∙ in_any (λ (x : Part). is_some x.tried) r.parts b.its_part (in_of_get r.parts b.number b.its_part b.at) one)
+        let one = starved_tried b.its_part b.in_list (subst (λ (d : Due). is_starved limits (bare file limits) p r.entries d ≡ true) (sym b.is) a.passes) in
+        is_due.ends_is ∙ in_any (λ (x : Part). is_some x.tried) r.parts b.its_part b.in_list one)
         (λ holds.
         let a = any_in (λ (x : Part). is_some x.tried) r.parts (sym is_due.ends_is ∙ holds) in
-        let b = place_of r.parts a.it a.in_list in
-        let one = tried_starved b.number a.it b.at a.passes in
+        let one = tried_starved a.it a.in_list a.passes in
         in_any (is_starved limits (bare file limits) p r.entries) (dues AtOnce limits (bare file limits) p) (due given a.it.thread)
         (due_of a.it.thread (in_map (λ (x : Part). x.thread) r.parts a.it a.in_list))
-        (subst (λ (d : Due). is_starved limits (bare file limits) p r.entries d ≡ true) (given_due b.number a.it b.at) one))
+        (subst (λ (d : Due). is_starved limits (bare file limits) p r.entries d ≡ true) (given_due a.it a.in_list) one))
 
     abbrev list : List ObjectDeed
     list = listed file limits lay p.round p.era m (table_round m r) table
@@ -383,7 +373,7 @@ module _ (file : List ℕ) (limits : Limits) where
       entries = all_of_each (IsInRound p (dues AtOnce limits (bare file limits) p)) r.entries (inside r.entries table.inside their_threads);
       made = all_of_each (MakesDue AtOnce limits (bare file limits) p r.entries) (dues AtOnce limits (bare file limits) p)
           (all_members (MakesDue AtOnce limits (bare file limits) p r.entries) (dues AtOnce limits (bare file limits) p)
-          (λ d i. let b = part_of d i in subst (MakesDue AtOnce limits (bare file limits) p r.entries) b.is (makes_due b.number b.its_part b.at)));
+          (λ d i. let b = part_of d i in subst (MakesDue AtOnce limits (bare file limits) p r.entries) b.is (makes_due b.its_part b.in_list)));
     }
 
     -- as it begins the run goes on, and it gives some instructions

@@ -18,10 +18,11 @@ use Rattle.shared_table.specs.declared.object.DeskState.{DeskState}
 use Rattle.shared_table.specs.declared.view.Layout.{Layout}
 use Rattle.race_core.specs.Watched.{AreWatcherLimits}
 use Rattle.table_deeds.specs.Objects.{part_in, held_at, AreFirstObjects}
-use Rattle.table_deeds.specs.Rounds.{made_in, last_stamp, AreTableRounds}
+use Rattle.table_deeds.specs.Rounds.{made_in, last_stamp}
+use Rattle.hart_parts.proofs.Rounds.{round_is}
 use Rattle.woven_turns.specs.Following.{left_after}
 use Rattle.table_deeds.proofs.First.{first_kept}
-use Rattle.hart_parts.specs.Rounds.{PartRound, table_round, table_rounds, ArePartRounds}
+use Rattle.hart_parts.specs.Rounds.{PartRound, table_round, ArePartRounds}
 use Rattle.whole_parts.specs.Dues.{AreDueRounds, entries_by_part_round, state_after_rounds, remaining_after, era_of_last, IsEnd, IsOver}
 use Rattle.whole_parts.proofs.Standing.{bare, Stood, first_stood}
 use Rattle.whole_parts.proofs.Listed.{Objects, at_next}
@@ -42,9 +43,9 @@ module _ (file : List ℕ) (limits : Limits) (ok : image_of file ≡ Ok file) (l
 
   pub comes : (rs : List PartRound) (p : Progress) (base : ℕ) (m : Objects file limits) → Reaches AtOnce limits (bare file limits) plan p →
       Stood file limits (held_at file limits m) p.round p.era p.entries → AreNew (part_in file desk (m.value desk)) →
-      ArePartRounds file limits lay p.round p.era base m rs → AreTableRounds file limits lay p.round p.era base m (table_rounds m rs) →
+      ArePartRounds file limits lay p.round p.era base m rs →
       AreDueRounds limits p.remaining m rs → Comes m p rs
-  comes [] p base m reached s new are tables all = record {
+  comes [] p base m reached s new are all = record {
     progress = p;
     reached = reached;
     stood = s;
@@ -53,25 +54,23 @@ module _ (file : List ℕ) (limits : Limits) (ok : image_of file ≡ Ok file) (l
     round = omega arith;
     last_era = refl;
   }
-  comes (r ∷ rs) p base m reached s new are tables all =
-      let table = tables.1 in
+  comes (r ∷ rs) p base m reached s new are all =
+      let table = round_is file limits lay p.round p.era m r are.1 in
       let t = table_round m r in
       let part = r.entries in
       let starved = list_any (is_starved limits (bare file limits) p part) (dues AtOnce limits (bare file limits) p) in
-      let same : starved ≡ r.ends = ends_same file limits ok lay p m r are.1 table s new all.0 in
+      let same : starved ≡ r.ends = ends_same file limits ok lay p m r are.1 s new all.0 in
       let one : Progress = after_round AtOnce limits (bare file limits) p part in
       let reached_one : Reaches AtOnce limits (bare file limits) plan one =
-      Round p part reached (goes_on file limits ok lay p m r are.1 table s new all.0) (gives file limits ok lay p m r are.1 table s new all.0)
-      (is_round file limits ok lay p m r are.1 table s new all.0) in
+      Round p part reached (goes_on file limits ok lay p m r are.1 s new all.0) (gives file limits ok lay p m r are.1 s new all.0)
+      (is_round file limits ok lay p m r are.1 s new all.0) in
       let at_end = at_next file limits lay p.round p.era m t table ok p.entries s in
       let stood_one = subst (λ (b : Bool). Stood file limits (held_at file limits r.next) (p.round + 1) (cond b (p.era + 1) p.era) (p.entries ++ part))
       (sym same) at_end in
       let new_one = next_new file limits r.ends ((left_after m (made_in t)).value desk) (r.next.value desk) table.onward.desk_is
-      (new_then file limits ok lay p m r are.1 table s new all.0) in
+      (new_then file limits ok lay p m r are.1 s new all.0) in
       let are_one = subst (λ (b : Bool). ArePartRounds file limits lay (p.round + 1) (cond b (p.era + 1) p.era) (last_stamp t) r.next rs) (sym same) are.2 in
-      let tables_one = subst (λ (b : Bool). AreTableRounds file limits lay (p.round + 1) (cond b (p.era + 1) p.era) (last_stamp t) r.next
-      (table_rounds r.next rs)) (sym same) tables.2 in
-      let rest = comes rs one (last_stamp t) r.next reached_one stood_one new_one are_one tables_one all.1 in
+      let rest = comes rs one (last_stamp t) r.next reached_one stood_one new_one are_one all.1 in
       record {
         progress = rest.progress;
         reached = rest.reached;
@@ -101,11 +100,11 @@ module _ (file : List ℕ) (limits : Limits) (ok : image_of file ≡ Ok file) (l
       )
 
   module _ (m : Objects file limits) (rs : List PartRound) (ranges : AreWatcherLimits limits) (first : AreFirstObjects file limits m)
-      (are : ArePartRounds file limits lay 0 0 0 m rs) (tables : AreTableRounds file limits lay 0 0 0 m (table_rounds m rs))
+      (are : ArePartRounds file limits lay 0 0 0 m rs)
       (are_due : AreDueRounds limits limits.steps m rs) where
     all : Comes m (at_start limits plan) rs
     all = comes rs (at_start limits plan) 0 m Start (first_stood file limits (held_at file limits m) ranges (first_kept file limits m first))
-        (first_new file limits (m.value desk) first.desk_is) are tables are_due
+        (first_new file limits (m.value desk) first.desk_is) are are_due
 
     abbrev pub entries_made : List Entry
     entries_made = all_entries (entries_by_part_round rs)

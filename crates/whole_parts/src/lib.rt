@@ -33,7 +33,7 @@ ghost use Rattle.shared_table.specs.declared.view.Layout.{Layout};
 ghost use Rattle.placed_detector.specs.Standing.{Hand};
 ghost use Rattle.table_deeds.specs.Objects.{slots_in, AreFirstObjects};
 ghost use Rattle.table_deeds.specs.Rounds.{TableRound, AreTableRounds};
-ghost use Rattle.hart_parts.specs.Rounds.{PartRound, table_rounds, ArePartRounds};
+ghost use Rattle.hart_parts.specs.Rounds.{PartRound, ArePartRounds};
 ghost use Rattle.whole_parts.specs.Tries.{EndsInVain, HasCome};
 ghost use Rattle.whole_parts.specs.Dues.{HasDesk, AreDueRounds, IsOver, entries_by_part_round, state_after_rounds};
 
@@ -52,23 +52,23 @@ pub fn tried_law()
 pub fn desk_law()
     ensures lives { (file : List ℕ) (limits : Limits) (lay : Layout) (m : State (Stamped Hand) Object) (rs : List PartRound) (d : DeskState) (t : ℕ) →
         AreWatcherLimits limits → AreFirstObjects file limits m → image_of file ≡ Ok file →
-        AreTableRounds file limits lay 0 0 0 m (table_rounds m rs) → HasDesk ((state_after_rounds m rs).value desk) d →
+        ArePartRounds file limits lay 0 0 0 m rs → HasDesk ((state_after_rounds m rs).value desk) d →
         lives (state_after (bare_of file limits.harts) (all_entries (entries_by_part_round rs))) t ≡ (thread_of d.desk t).lives }
     ensures living { (file : List ℕ) (limits : Limits) (lay : Layout) (m : State (Stamped Hand) Object) (rs : List PartRound) (d : DeskState) →
         AreWatcherLimits limits → AreFirstObjects file limits m → image_of file ≡ Ok file →
-        AreTableRounds file limits lay 0 0 0 m (table_rounds m rs) → HasDesk ((state_after_rounds m rs).value desk) d →
+        ArePartRounds file limits lay 0 0 0 m rs → HasDesk ((state_after_rounds m rs).value desk) d →
         length (live_in (bare_of file limits.harts) (state_after (bare_of file limits.harts) (all_entries (entries_by_part_round rs)))) ≡ live_of d.desk }
     ensures threads { (file : List ℕ) (limits : Limits) (lay : Layout) (m : State (Stamped Hand) Object) (rs : List PartRound) (d : DeskState) →
         AreWatcherLimits limits → AreFirstObjects file limits m → image_of file ≡ Ok file →
-        AreTableRounds file limits lay 0 0 0 m (table_rounds m rs) → HasDesk ((state_after_rounds m rs).value desk) d →
+        ArePartRounds file limits lay 0 0 0 m rs → HasDesk ((state_after_rounds m rs).value desk) d →
         length (state_after (bare_of file limits.harts) (all_entries (entries_by_part_round rs))).threads ≡ length d.machine.made }
     ensures output { (file : List ℕ) (limits : Limits) (lay : Layout) (m : State (Stamped Hand) Object) (rs : List PartRound) (d : DeskState) →
         AreWatcherLimits limits → AreFirstObjects file limits m → image_of file ≡ Ok file →
-        AreTableRounds file limits lay 0 0 0 m (table_rounds m rs) → HasDesk ((state_after_rounds m rs).value desk) d →
+        ArePartRounds file limits lay 0 0 0 m rs → HasDesk ((state_after_rounds m rs).value desk) d →
         (state_after (bare_of file limits.harts) (all_entries (entries_by_part_round rs))).output ≡ d.machine.output }
     ensures ended { (file : List ℕ) (limits : Limits) (lay : Layout) (m : State (Stamped Hand) Object) (rs : List PartRound) (d : DeskState) →
         AreWatcherLimits limits → AreFirstObjects file limits m → image_of file ≡ Ok file →
-        AreTableRounds file limits lay 0 0 0 m (table_rounds m rs) → HasDesk ((state_after_rounds m rs).value desk) d →
+        ArePartRounds file limits lay 0 0 0 m rs → HasDesk ((state_after_rounds m rs).value desk) d →
         (state_after (bare_of file limits.harts) (all_entries (entries_by_part_round rs))).ended ≡ d.machine.ended }
 {}
 
@@ -78,6 +78,6 @@ pub fn whole_law()
     ensures { (file : List ℕ) (limits : Limits) (lay : Layout) (m : State (Stamped Hand) Object) (rs : List PartRound) (plan : List Turn)
         (closed : DeskState) (last : LastState) →
         AreWatcherLimits limits → AreFirstObjects file limits m → image_of file ≡ Ok file → ArePartRounds file limits lay 0 0 0 m rs →
-        AreTableRounds file limits lay 0 0 0 m (table_rounds m rs) → AreDueRounds limits limits.steps m rs → IsOver limits m rs closed last →
+        AreDueRounds limits limits.steps m rs → IsOver limits m rs closed last →
         IsWholeRun AtOnce limits plan (bare_of file limits.harts) (all_entries (entries_by_part_round rs)) last }
 {}
