@@ -1,6 +1,5 @@
 pub mod Alike
 pub mod Standing
-pub mod Onward
 pub mod Listed
 pub mod Tries
 pub mod Desks

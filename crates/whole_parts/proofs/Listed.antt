@@ -1,5 +1,5 @@
 -- A round at the table as its entries list it: what stands after all of them, and after the first ones.
-use Rattle.std.proofs.Common.{◌≡◌, ℕ, ◌+◌, cond, List, [], ◌∷◌, ◌++◌, refl, sym, ap, subst, ◌∙◌, arith}
+use Rattle.std.proofs.Common.{◌≡◌, ℕ, ◌+◌, Bool, cond, List, [], ◌∷◌, ◌++◌, refl, sym, ap, subst, ◌∙◌, arith}
 use Rattle.std.specs.Prelude.{◌==◌, IsPermutation, Ok}
 use Rattle.std.specs.List.Sorted.{apply_swaps, SwapsInRange}
 use Rattle.std.proofs.lemmas.List.{length-map}
@@ -22,7 +22,7 @@ use Rattle.woven_turns.proofs.Weaving.{woven_each, round_line}
 use Rattle.woven_turns.proofs.Sorting.{same_thread, same_place, sorted_line}
 use Rattle.placed_detector.specs.Standing.{Hand, Held}
 use Rattle.deed_histories.specs.Lines.{HandDeed, IsHandDeed, entries_of}
-use Rattle.deed_histories.specs.Rounds.{hand_stamp}
+use Rattle.deed_histories.specs.Rounds.{hand_stamp, between}
 use Rattle.deed_histories.proofs.Permuted.{map_swaps}
 use Rattle.table_deeds.specs.Objects.{ObjectDeed, hand_deed, hand_deeds, last_in, held_at}
 use Rattle.table_deeds.specs.Listing.{IsListed}
@@ -30,7 +30,7 @@ use Rattle.table_deeds.specs.Rounds.{TableRound, made_in, hands_in, last_stamp, 
 use Rattle.table_deeds.proofs.Left.{local_left_is, value_left_is}
 use Rattle.table_deeds.proofs.Lines.{lines_up, all_left}
 use Rattle.table_deeds.proofs.Listing.{listing}
-use Rattle.whole_parts.proofs.Onward.{next_held}
+use Rattle.table_deeds.proofs.Rounds.{one_round}
 use Rattle.whole_parts.proofs.Standing.{Stood, goes_on, next_stood}
 
 -- ---- the first part of a line
@@ -197,9 +197,19 @@ module _ (file : List ℕ) (limits : Limits) where
           (subst (λ (es : List Entry). Stood file limits (held_at file limits (left_after m listed)) round era (done ++ es)) entries_are
           (after_first listed all_goes))
 
+      next_held : between era (last_stamp r) r.ends (held_at file limits (left_after m (made_in r))) ≡ held_at file limits r.next
+      next_held =
+          let one = one_round file limits lay round era m r h in
+          let c = held_at file limits m in
+          sym (ap (λ (n : ℕ). between era n one.it.ends (left_after c one.it.made)) one.top_is
+          ∙ (ap (λ (b : Bool). between era (last_stamp r) b (left_after c one.it.made)) one.ends_is
+          ∙ (ap (λ (ds : List HandDeed). between era (last_stamp r) r.ends (left_after c ds)) one.made_is
+          ∙ ap (between era (last_stamp r) r.ends) (all_left file limits m (made_in r)))))
+          ∙ one.after_it
+
       -- and when the next round begins
       pub at_next : Stood file limits (held_at file limits r.next) (round + 1) (cond r.ends (era + 1) era) (done ++ r.entries)
       at_next =
           subst (λ (c : State (Stamped Hand) (Stamped Held)). Stood file limits c (round + 1) (cond r.ends (era + 1) era) (done ++ r.entries))
-          (sym (next_held file limits (left_after m (made_in r)) r.next era (last_stamp r) r.ends h.onward))
+          next_held
           (next_stood file limits (held_at file limits (left_after m (made_in r))) round era (last_stamp r) (done ++ r.entries) r.ends after_all h.begun)
