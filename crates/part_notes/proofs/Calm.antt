@@ -82,7 +82,8 @@ module _ (file : List ℕ) (harts : ℕ) where
       kept file (after (bare_of file harts) w t n) t (alive n (omega arith)) (threads_then w t n (λ j l. alive j (omega (arith, l))) h)
 
   -- and after entries
-  pub threads_over : (w : World) (ds : List StampedDeed) (es : List Entry) → AllFacts file harts w ds es → HasThreads w → HasThreads (world_over file harts w es)
+  pub threads_over : (w : World) (ds : List StampedDeed) (es : List Entry) → AllFacts file harts w ds es → HasThreads w →
+      HasThreads (world_over file harts w es)
   threads_over w [] [] f h = h
   threads_over w [] (e ∷ es) f h = absurd f
   threads_over w (d ∷ ds) [] f h = absurd f

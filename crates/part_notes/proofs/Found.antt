@@ -169,6 +169,9 @@ module _ (file : List ℕ) (limits : Limits) (ok : image_of file ≡ Ok file) wh
       pub new_epoch : l.epoch ≡ (labels_now limits.epochs h).epoch l.sid + 1
       pub present_era : l.era ≡ (labels_now limits.epochs h).era
 
+    abbrev IsDeskNow : DeskContents → Type 0
+    IsDeskNow x = IsDesk limits.epochs limits.slots (labels_now limits.epochs h) (clocks_now limits.epochs h) (queue_now limits.epochs limits.slots h) x
+
     took : (l : Label) → e.note ≡ Attach l → TookIn file limits era k l d.local_found.state d.found.state e t
     took l is = took_in file limits era t k d.local_found.state d.local_left.state d.found.state d.left.state e d.told.acts l f.made.deed is
 
@@ -179,10 +182,9 @@ module _ (file : List ℕ) (limits : Limits) (ok : image_of file ≡ Ok file) wh
         let dd = (plain f.hands).value desk in
         let same : dd.desk ≡ d.found.state.desk =
         ap (λ (j : ℕ). (f.hands.value j).state.desk) (sym x.at) ∙ ap (λ (v : Stamped Held). v.state.desk) f.there in
-        let stands : IsDesk limits.epochs limits.slots (labels_now limits.epochs h) (clocks_now limits.epochs h) (queue_now limits.epochs limits.slots h) d.found.state.desk =
-        subst (λ (z : DeskContents). IsDesk limits.epochs limits.slots (labels_now limits.epochs h) (clocks_now limits.epochs h)
-        (queue_now limits.epochs limits.slots h) z) same f.stands.standing.kept.desk.desk in
-        let free = front_free limits.epochs limits.slots (labels_now limits.epochs h) d.found.state.desk.queue d.found.state.desk l.sid a.rest stands.slots a.front in
+        let stands : IsDeskNow d.found.state.desk = subst IsDeskNow same f.stands.standing.kept.desk.desk in
+        let free = front_free limits.epochs limits.slots (labels_now limits.epochs h) d.found.state.desk.queue d.found.state.desk l.sid a.rest
+        stands.slots a.front in
         record {
           unlabelled = no_slot_of (λ (s : ℕ). record { sid = s; epoch = (labels_now limits.epochs h).epoch s; era = (labels_now limits.epochs h).era })
               ((labels_now limits.epochs h).slot_of e.tid) (sym label_is ∙ a.unlabelled);

@@ -48,10 +48,6 @@ use Rattle.part_notes.proofs.Rounds.{era_over, one, listed, listed_each, listed_
 
 -- ---- alike moments
 
-alike_same : (h : List Moment) → AreAlike h h
-alike_same [] = tt
-alike_same (m ∷ h) = ((refl, refl), alike_same h)
-
 alike_then : (h k l : List Moment) → AreAlike h k → AreAlike k l → AreAlike h l
 alike_then [] [] [] a b = tt
 alike_then [] [] (z ∷ l) a b = absurd b
@@ -149,7 +145,8 @@ module _ (file : List ℕ) (limits : Limits) (ok : image_of file ≡ Ok file) (l
     world_is : world ≡ state_after bare done
 
   -- what stands behind it
-  module _ (round era : ℕ) (m : Objects) (r : PartRound) (hr : IsPartRound file limits lay round era m r) (done : List Entry) (b : Before round era m done) where
+  module _ (round era : ℕ) (m : Objects) (r : PartRound) (hr : IsPartRound file limits lay round era m r) (done : List Entry)
+      (b : Before round era m done) where
     abbrev it : OneRound file limits lay round era m (table_round m r)
     it = one file limits ok lay round era m r hr
 
@@ -163,7 +160,8 @@ module _ (file : List ℕ) (limits : Limits) (ok : image_of file ≡ Ok file) (l
     each_made = subst (λ (n : ℕ). Each (IsHandDeed file limits n) ds) (sym b.era_is) (listed_each file limits ok lay round era m r hr)
 
     all_of_it : Advanced file limits ok (held_at file limits m) b.machine b.world b.history ds
-    all_of_it = advance file limits ok ds (held_at file limits m) b.machine b.world b.history (listed_line file limits ok lay round era m r hr) each_made b.stands
+    all_of_it =
+        advance file limits ok ds (held_at file limits m) b.machine b.world b.history (listed_line file limits ok lay round era m r hr) each_made b.stands
 
     behind : Before (round + 1) (cond r.ends (era + 1) era) r.next (done ++ r.entries)
     behind =

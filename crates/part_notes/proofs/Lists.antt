@@ -16,6 +16,17 @@ module _ {X Y : Type 0} (f : X → Y) where
     pub is : f it ≡ b
     pub rest : map f others ≡ cs
 
+  more : (x : X) (xs : List X) (a : Y) (fs : List Y) (b : Y) (cs : List Y) → f x ≡ a → Cut xs fs b cs → Cut (x ∷ xs) (a ∷ fs) b cs
+  more x xs a fs b cs head r = record {
+    first = x ∷ r.first;
+    it = r.it;
+    others = r.others;
+    whole = ap (λ (l : List X). x ∷ l) r.whole;
+    firsts = ap (λ (l : List Y). f x ∷ l) r.firsts ∙ ap (λ (y : Y). y ∷ fs) head;
+    is = r.is;
+    rest = r.rest;
+  }
+
   pub cut_at : (xs : List X) (fs : List Y) (b : Y) (cs : List Y) → map f xs ≡ fs ++ b ∷ cs → Cut xs fs b cs
   cut_at [] [] b cs e = absurd (let z = ap (λ (l : List Y). length l) e in omega (arith, z))
   cut_at [] (a ∷ fs) b cs e = absurd (let z = ap (λ (l : List Y). length l) e in omega (arith, z))
@@ -23,16 +34,7 @@ module _ {X Y : Type 0} (f : X → Y) where
   cut_at (x ∷ xs) (a ∷ fs) b cs e =
       let rest : map f xs ≡ fs ++ b ∷ cs = cc in
       let head : f x ≡ a = cc in
-      let r = cut_at xs fs b cs rest in
-      record {
-        first = x ∷ r.first;
-        it = r.it;
-        others = r.others;
-        whole = ap (λ (l : List X). x ∷ l) r.whole;
-        firsts = ap (λ (l : List Y). f x ∷ l) r.firsts ∙ ap (λ (y : Y). y ∷ fs) head;
-        is = r.is;
-        rest = r.rest;
-      }
+      more x xs a fs b cs head (cut_at xs fs b cs rest)
 
 module _ {X : Type 0} where
   -- where the first of two lists has the element, or the second has

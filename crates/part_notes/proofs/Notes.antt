@@ -298,8 +298,7 @@ module _ (limits : Limits) (needs : ℕ → Bool) (all : List Entry)
         greatest = s.greatest;
       } in
       let x = i.left l spends in
-      let m = length (before (b.done ++ b.entry ∷ x.0.mid) x.0.entry) in
-      (
+      let m = length (before (b.done ++ b.entry ∷ x.0.mid) x.0.entry) in (
         m,
         subst (λ (u : ℕ). IsNextEntry hs n u m (Leave l)) b.thread
             (subst (λ (k : ℕ). IsNextEntry hs k b.entry.tid m (Leave l)) (sym b.at)
@@ -337,8 +336,7 @@ module _ (limits : Limits) (needs : ℕ → Bool) (all : List Entry)
       let more = ap (λ (xs : List Event). length xs) s.events in
       let sum = length-append s.first (s.event ∷ []) in
       let k = length (before p.front p.entry) + suc (length s.first) in
-      let next = next_of p.front p.entry (p.mid ++ e ∷ rest) before_whole n (suc (length s.first)) (omega (arith, long, more, sum)) in
-      (
+      let next = next_of p.front p.entry (p.mid ++ e ∷ rest) before_whole n (suc (length s.first)) (omega (arith, long, more, sum)) in (
         k,
         subst (λ (u : ℕ). Spends limits hs k u l) (sym p.thread) (spends_at p.front p.entry (p.mid ++ e ∷ rest) before_whole l s),
         subst (λ (u : ℕ). IsNextEntry hs k u (length (before done e)) (Leave l)) (sym p.thread)

@@ -93,6 +93,10 @@ last_view {X} (x ∷ xs) = elim (last_view xs) [
   | Last first y is ↦ Last (x ∷ first) y (ap (λ (l : List X). x ∷ l) is)
 ]
 
+-- a kept deed is one of the thread
+kept_thread : (t : ℕ) (ds : List HandDeed) (x : HandDeed) → In x (of_thread t ds) → x.call.thread ≡ t
+kept_thread t ds x i = eqb-true x.call.thread t (filter_in (λ (v : HandDeed). v.call.thread == t) x ds i).1
+
 -- ---- one round
 
 module _ (file : List ℕ) (limits : Limits) (ok : image_of file ≡ Ok file) (lay : Layout) (round era : ℕ) (m : State (Stamped Hand) Object) (r : PartRound)
@@ -303,9 +307,6 @@ module _ (file : List ℕ) (limits : Limits) (ok : image_of file ≡ Ok file) (l
       followed = noted_at file limits its.cut.first its.cut.it its.cut.others
           (subst (AreNoted file limits) its.cut.whole (noted_part front d back its))
 
-      tid_is : e.tid ≡ d.call.thread
-      tid_is = thread_of_deed file limits era d (made_of front d back whole).0
-
     -- ---- the next deed
 
     record NextDeed (front : List HandDeed) (d : HandDeed) (back : List HandDeed) (z : ObjectDeed) : Type 0 where
@@ -350,9 +351,6 @@ module _ (file : List ℕ) (limits : Limits) (ok : image_of file ≡ Ok file) (l
           mid_is = refl;
           entry_is = refl;
         }
-      where
-        kept_thread : (t : ℕ) (ds : List HandDeed) (x : HandDeed) → In x (of_thread t ds) → x.call.thread ≡ t
-        kept_thread t ds x i = eqb-true x.call.thread t (filter_in (λ (v : HandDeed). v.call.thread == t) x ds i).1
 
     -- ---- the deed before
 
@@ -400,9 +398,6 @@ module _ (file : List ℕ) (limits : Limits) (ok : image_of file ≡ Ok file) (l
           front_is = refl;
           entry_is = refl;
         }
-      where
-        kept_thread : (t : ℕ) (ds : List HandDeed) (x : HandDeed) → In x (of_thread t ds) → x.call.thread ≡ t
-        kept_thread t ds x i = eqb-true x.call.thread t (filter_in (λ (v : HandDeed). v.call.thread == t) x ds i).1
 
     -- ---- the notes
 
@@ -427,19 +422,12 @@ module _ (file : List ℕ) (limits : Limits) (ok : image_of file ≡ Ok file) (l
       same_deed = own.cut.is
 
       needy_is : NeedsSlot file limits ok era d (then front) (here front) found → IsNeedy file limits own.cut.it
-      needy_is n = go d same_deed found n
-        where
-          go : (x : HandDeed) → hand_deed file limits own.cut.it ≡ x → (f : Found file limits ok era x (then front) (here front)) →
-              NeedsSlot file limits ok era x (then front) (here front) f → IsNeedy file limits own.cut.it
-          go x q f n = subst_needy x q n.step n.within n.needs
-            where
-              subst_needy : (x : HandDeed) → hand_deed file limits own.cut.it ≡ x → (j : ℕ) → j < x.told.entry.steps →
-                  NeedsAt file limits.harts ok x.call.thread x.call.place x.local_found.state.bare x.found.state.bare j → IsNeedy file limits own.cut.it
-              subst_needy x q j l n = record {
-                step = j;
-                within = subst (λ (y : HandDeed). j < y.told.entry.steps) (sym q) l;
-                needs = subst (λ (y : HandDeed). NeedsAt file limits.harts ok y.call.thread y.call.place y.local_found.state.bare y.found.state.bare j) (sym q) n;
-              }
+      needy_is n = record {
+        step = n.step;
+        within = subst (λ (x : HandDeed). n.step < x.told.entry.steps) (sym same_deed) n.within;
+        needs = subst (λ (x : HandDeed).
+            NeedsAt file limits.harts ok x.call.thread x.call.place x.local_found.state.bare x.found.state.bare n.step) (sym same_deed) n.needs;
+      }
 
       labelled : needs (length before_it) ≡ true → label_now limits.epochs (before before_it it) it.tid ≢ None
       labelled q none =
@@ -482,8 +470,7 @@ module _ (file : List ℕ) (limits : Limits) (ok : image_of file ≡ Ok file) (l
           record { step = x.1.step; within = x.1.within; needs = x.1.needs } in
           let number : done ++ entries_of (front ++ d ∷ n.mid) ≡ before_it ++ it ∷ n.next.mid =
           ap (λ (es : List Entry). done ++ es) (map-append (λ (y : HandDeed). y.told.entry) front (d ∷ n.mid))
-          ∙ (sym (append_assoc done (entries_of front) (it ∷ entries_of n.mid)) ∙ ap (λ (es : List Entry). before_it ++ it ∷ es) (sym n.mid_is)) in
-          (
+          ∙ (sym (append_assoc done (entries_of front) (it ∷ entries_of n.mid)) ∙ ap (λ (es : List Entry). before_it ++ it ∷ es) (sym n.mid_is)) in (
             n.next,
             ap (λ (es : List Entry). needs (length es)) (sym number)
                 ∙ (needs_here (front ++ d ∷ n.mid) next n.tail again
@@ -531,8 +518,7 @@ module _ (file : List ℕ) (limits : Limits) (ok : image_of file ≡ Ok file) (l
                 raising = s.raising;
                 label = sym (label_found p.first it_was (p.mid ++ d ∷ back) again) ∙ s.label;
                 greatest = s.greatest;
-              } in
-              (
+              } in (
                 p.last,
                 subst (λ (x : Entry). SpendsLabel limits p.last.front x l) (sym p.entry_is)
                     (subst (λ (es : List Entry). SpendsLabel limits es z.told.entry l) (sym p.front_is) spends),

@@ -37,7 +37,6 @@ pub fn notes_law()
         NeedsLabel limits (needs_slot (bare_of file limits.harts) entries) (moments entries) }
     ensures notes { (file : List ℕ) (limits : Limits) (lay : Layout) (m : State (Stamped Hand) Object) (rs : List PartRound) →
         AreWatcherLimits limits → 1 ≤ limits.harts → AreFirstObjects file limits m → image_of file ≡ Ok file →
-        ArePartRounds file limits lay 0 0 0 m rs →
-        let entries = entries_in_rounds rs in
+        ArePartRounds file limits lay 0 0 0 m rs → let entries = entries_in_rounds rs in
         AreNotes limits (needs_slot (bare_of file limits.harts) entries) (moments entries) }
 {}
