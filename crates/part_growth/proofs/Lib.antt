@@ -1,0 +1,6 @@
+pub mod Lists
+pub mod Gathering
+pub mod Deeds
+pub mod Needs
+pub mod Growing
+pub mod Slots

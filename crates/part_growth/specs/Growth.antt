@@ -1,5 +1,5 @@
 -- How a part of a round grows: instructions are gathered, and become a deed with the turn of an object.
-use Rattle.std.specs.Prelude.{◌≡◌, ◌≢◌, ◌<◌, ◌≤◌, ◌+◌, ◌⊎◌, max, ℕ, true, List, [], ◌∷◌, ◌++◌, length, sum_by, Option, None, Some}
+use Rattle.std.specs.Prelude.{◌≡◌, ◌≢◌, ◌<◌, ◌≤◌, ◌+◌, ◌⊎◌, max, ℕ, true, List, [], ◌∷◌, ◌++◌, length, None, Some}
 use Rattle.std.specs.List.{AllZip, flat_map}
 use Rattle.run_record.specs.declared.limits.Limits.{Limits}
 use Rattle.run_record.specs.declared.event.Event.{Event}
@@ -15,14 +15,13 @@ use Rattle.machine_laws.specs.Events.{is_local}
 use Rattle.run_laws.specs.Labels.{raises}
 use Rattle.race_core.specs.Watched.{Watched}
 use Rattle.place_turns.specs.Places.{Value}
-use Rattle.turn_histories.specs.Entries.{IsAlive, IsPlaceOf, next_object}
+use Rattle.turn_histories.specs.Entries.{IsAlive, next_object}
 use Rattle.shared_table.specs.declared.object.Object.{Object}
 use Rattle.shared_table.specs.declared.view.Item.TheVariants.{Take, Give}
 use Rattle.shared_table.specs.Past.{Log}
 use Rattle.placed_detector.specs.Standing.{Hand, Held}
 use Rattle.placed_detector.specs.Instructions.{MakesInstruction}
-use Rattle.placed_detector.specs.Slots.{TakesSlot, LeavesSlot}
-use Rattle.deed_histories.specs.Deeds.{Made, all_events, all_checks, AreNumbered, TellsNote}
+use Rattle.deed_histories.specs.Deeds.{Made, all_events, all_checks, AreNumbered}
 use Rattle.deed_histories.specs.Lines.{entries_of, IsHandDeed}
 use Rattle.table_deeds.specs.Objects.{ObjectDeed, hand_deed, hand_deeds, held_in, last_in}
 use Rattle.hart_parts.specs.Parts.{IsStretch, all_touches, after_steps, IsNeedy, SpendsIn}
@@ -159,3 +158,28 @@ pub record IsTurn (k : ℕ) (old new : Log) (number : ℕ) (touches : Log) (foun
   pub log : new ≡ old ++ Take k number ∷ (touches ++ Give k number found left ∷ [])
   pub stamp_is : stamp ≡ max last (last_in found) + 1
   pub left_there : last_in left ≡ stamp
+
+-- The entry of what was gathered and of one more instruction with these events and the checks of each, which drew that stamp.
+pub record IsEntryWith (t : ℕ) (g : Gathered) (es : List Event) (css : List (List Check)) (stamp : ℕ) (e : Entry) : Type 0 where
+  pub thread : e.tid ≡ t
+  pub steps : e.steps ≡ g.steps + 1
+  pub note : e.note ≡ Nothing
+  pub events : e.events ≡ g.events ++ es
+  pub checks : e.checks ≡ g.checks ++ flat_map (λ (cs : List Check). cs) css
+  pub stamp_is : e.stamp ≡ stamp
+
+-- and the entry of what was gathered alone
+pub record IsEntryOf (t : ℕ) (g : Gathered) (stamp : ℕ) (e : Entry) : Type 0 where
+  pub thread : e.tid ≡ t
+  pub steps : e.steps ≡ g.steps
+  pub note : e.note ≡ Nothing
+  pub events : e.events ≡ g.events
+  pub checks : e.checks ≡ g.checks
+  pub stamp_is : e.stamp ≡ stamp
+
+-- A part whose thread took a slot: its deeds lead to what the thread had with the slot before the instructions that were gathered,
+-- and one of the instructions to come needs it.
+pub record HasAttached (file : List ℕ) (limits : Limits) (era t : ℕ) (before : Stamped Hand) (log : Log) (entries : List Entry)
+    (now : Hand) (last : ℕ) (g : Gathered) : Type 0 where
+  pub found : Hand
+  pub so_far : SoFar file limits era t before log entries found now last g needy
