@@ -4,3 +4,4 @@ pub mod Deeds
 pub mod Needs
 pub mod Growing
 pub mod Slots
+pub mod Notes

@@ -39,7 +39,7 @@ use Rattle.part_growth.proofs.Growing.{deeds_of, anew}
 -- ---- a deed without instructions
 
 -- an entry with a note has no events, so that its last one can't spend a slot
-none_spent : (limits : Limits) (d : ObjectDeed) (l : Label) → d.told.entry.events ≡ [] → SpendsIn limits d l → ⊥
+pub none_spent : (limits : Limits) (d : ObjectDeed) (l : Label) → d.told.entry.events ≡ [] → SpendsIn limits d l → ⊥
 none_spent limits d l none s = go s.before s.event (sym none ∙ s.last)
   where
     go : (before : List Event) (event : Event) → [] ≡ before ++ event ∷ [] → ⊥
@@ -47,7 +47,7 @@ none_spent limits d l none s = go s.before s.event (sym none ∙ s.last)
     go (b ∷ bs) event q = let r : [] ≡ b ∷ (bs ++ event ∷ []) = q in absurd (cc)
 
 -- and no instruction that needs one
-none_needy : (file : List ℕ) (limits : Limits) (d : ObjectDeed) → d.told.entry.steps ≡ 0 → IsNeedy file limits d → ⊥
+pub none_needy : (file : List ℕ) (limits : Limits) (d : ObjectDeed) → d.told.entry.steps ≡ 0 → IsNeedy file limits d → ⊥
 none_needy file limits d none n = let l = n.within in omega (arith, none, l)
 
 module _ (file : List ℕ) (limits : Limits) (era t : ℕ) (before : Stamped Hand) where

@@ -1,5 +1,5 @@
 -- How a part of a round grows: instructions are gathered, and become a deed with the turn of an object.
-use Rattle.std.specs.Prelude.{◌≡◌, ◌≢◌, ◌<◌, ◌≤◌, ◌+◌, ◌⊎◌, max, ℕ, true, List, [], ◌∷◌, ◌++◌, length, None, Some}
+use Rattle.std.specs.Prelude.{◌≡◌, ◌≢◌, ◌<◌, ◌≤◌, ◌+◌, ◌⊎◌, max, ℕ, true, List, [], ◌∷◌, ◌++◌, length, sum_by, Option, None, Some}
 use Rattle.std.specs.List.{AllZip, flat_map}
 use Rattle.run_record.specs.declared.limits.Limits.{Limits}
 use Rattle.run_record.specs.declared.event.Event.{Event}
@@ -23,8 +23,8 @@ use Rattle.placed_detector.specs.Standing.{Hand, Held}
 use Rattle.placed_detector.specs.Instructions.{MakesInstruction}
 use Rattle.deed_histories.specs.Deeds.{Made, all_events, all_checks, AreNumbered}
 use Rattle.deed_histories.specs.Lines.{entries_of, IsHandDeed}
-use Rattle.table_deeds.specs.Objects.{ObjectDeed, hand_deed, hand_deeds, held_in, last_in}
-use Rattle.hart_parts.specs.Parts.{IsStretch, all_touches, after_steps, IsNeedy, SpendsIn}
+use Rattle.table_deeds.specs.Objects.{slots_in, ObjectDeed, hand_deed, hand_deeds, held_in, last_in}
+use Rattle.hart_parts.specs.Parts.{Try, Part, left_in, part_entries, HasEnded, WantsSlot, IsPart, IsStretch, all_touches, after_steps, IsNeedy, SpendsIn}
 
 -- ---- instructions that were gathered
 
@@ -183,3 +183,48 @@ pub record HasAttached (file : List ℕ) (limits : Limits) (era t : ℕ) (before
     (now : Hand) (last : ℕ) (g : Gathered) : Type 0 where
   pub found : Hand
   pub so_far : SoFar file limits era t before log entries found now last g needy
+
+-- ---- the end of a part
+
+-- how many instructions a part has made so far
+abbrev pub made_so_far : List Entry → Gathered → ℕ
+made_so_far entries g = sum_by (λ (e : Entry). e.steps) entries + g.steps
+
+-- The thread is starved: it has no label where its next instruction wants one, and its last turn of the desk found no free slot.
+pub record Starves (file : List ℕ) (limits : Limits) (t : ℕ) (now : Hand) (tried : Option Try) : Type 0 where
+  pub unlabelled : now.watched.label ≡ None
+  pub wants : WantsSlot file t now.bare.thread
+  pub try_ : Try
+  pub tried_is : tried ≡ Some try_
+  pub none_free : (slots_in limits try_.found).queue ≡ []
+
+-- It stops after as many instructions as it was given, and after fewer only where it ended or is starved. It tries in vain only then.
+pub record Stops (file : List ℕ) (limits : Limits) (t given made : ℕ) (now : Hand) (tried : Option Try) : Type 0 where
+  pub no_more : made ≤ given
+  pub fewer : made < given → HasEnded now.bare.thread ⊎ Starves file limits t now tried
+  pub tried_only : (x : Try) → tried ≡ Some x → (made < given) × Starves file limits t now tried
+
+-- what was gathered last gets an entry of its own, if it is anything
+abbrev pub IsLastOf : ℕ → Gathered → ℕ → Option Entry → Type 0
+IsLastOf t g last None = g.steps ≡ 0
+IsLastOf t g last (Some e) = (g.steps ≢ 0) × IsEntryOf t g (last + 1) e
+
+abbrev pub with_last : List Entry → Option Entry → List Entry
+with_last entries None = entries
+with_last entries (Some e) = entries ++ e ∷ []
+
+abbrev pub stamp_with : ℕ → Option Entry → ℕ
+stamp_with last None = last
+stamp_with last (Some e) = last + 1
+
+-- There is a part of that thread, which began so, was given so many, and left this log, these entries and that.
+pub record IsFinished (file : List ℕ) (limits : Limits) (era t given : ℕ) (before : Stamped Hand) (log : Log) (entries : List Entry)
+    (left : Stamped Hand) : Type 0 where
+  pub part : Part
+  pub is_part : IsPart file limits era part
+  pub thread : part.thread ≡ t
+  pub before_is : part.before ≡ before
+  pub given_is : part.given ≡ given
+  pub log_is : part.log ≡ log
+  pub left_is : left_in part ≡ left
+  pub entries_are : part_entries file limits part ≡ entries
