@@ -5,3 +5,4 @@ pub mod Needs
 pub mod Growing
 pub mod Slots
 pub mod Notes
+pub mod Finishing
