@@ -27,7 +27,7 @@ use Rattle.deed_histories.specs.Deeds.{Made, all_checks, AreNumbered, TellsMade,
 use Rattle.deed_histories.specs.Lines.{entries_of, IsHandDeed}
 use Rattle.table_deeds.specs.Objects.{ObjectDeed, hand_deed, hand_deeds, held_in}
 use Rattle.hart_parts.specs.Parts.{IsStretch, all_touches, touches_of, IsNeedy, SpendsIn}
-use Rattle.part_growth.specs.Growth.{Gathered, nothing_gathered, MakesLocal, IsGathered, gathered_with, Owing, nothing, needy, leave_of, Meets, Owes, IsPaidBy}
+use Rattle.part_growth.specs.Growth.{checks_in, Gathered, nothing_gathered, MakesLocal, IsGathered, gathered_with, Owing, nothing, needy, leave_of, Meets, Owes, IsPaidBy}
 use Rattle.part_growth.specs.Growth.{NeedsWithin, IsOwedWith, SpendsBy, IsOwedBy, IsEntryWith, SoFar, place_in, IsTurn}
 use Rattle.part_growth.proofs.Lists.{events_push, checks_push, numbered_append, before_end, from_start, last_of}
 use Rattle.turn_orders.proofs.Members.{at_member}
@@ -35,14 +35,11 @@ use Rattle.part_growth.proofs.Gathering.{many_checks, all_local, local_push, mad
 use Rattle.part_growth.proofs.Deeds.{AreDeeds, IsNextDeed, deeds_push, entries_push, items_push}
 use Rattle.part_growth.proofs.Needs.{none_within, now_label, label_there, owed_after, now_bare}
 
-abbrev pub flat : List (List Check) → List Check
-flat css = flat_map (λ (cs : List Check). cs) css
+checks_append : (css dss : List (List Check)) → checks_in (css ++ dss) ≡ checks_in css ++ checks_in dss
+checks_append css dss = flat_map-append (λ (cs : List Check). cs) css dss
 
-flat_push : (css dss : List (List Check)) → flat (css ++ dss) ≡ flat css ++ flat dss
-flat_push css dss = flat_map-append (λ (cs : List Check). cs) css dss
-
-touches_push : (cs ds : List Check) → all_touches (cs ++ ds) ≡ all_touches cs ++ all_touches ds
-touches_push cs ds = flat_map-append touches_of cs ds
+touches_append : (cs ds : List Check) → all_touches (cs ++ ds) ≡ all_touches cs ++ all_touches ds
+touches_append cs ds = flat_map-append touches_of cs ds
 
 module _ (file : List ℕ) (limits : Limits) (era t : ℕ) (before : Stamped Hand) where
   -- the deeds of a part so far
@@ -115,15 +112,15 @@ module _ (file : List ℕ) (limits : Limits) (era t : ℕ) (before : Stamped Han
       steps = let q = is.steps in let p = length-append is.made (x ∷ []) in
           let r : length (is.made ++ x ∷ []) ≡ length is.made + 1 = p in omega (arith, q, r);
       events = ap (λ (es : List Event). es ++ x.events) is.events ∙ sym (events_push is.made x);
-      checks = ap (λ (cs : List Check). cs ++ flat x.checks) is.checks
-          ∙ (sym (flat_push (all_checks is.made) x.checks) ∙ ap flat (sym (checks_push is.made x)));
+      checks = ap (λ (cs : List Check). cs ++ checks_in x.checks) is.checks
+          ∙ (sym (checks_append (all_checks is.made) x.checks) ∙ ap checks_in (sym (checks_push is.made x)));
       numbered = subst (AreNumbered 0) (sym (checks_push is.made x)) (numbered_with x.checks n);
     }
 
   -- one more instruction without an object is gathered
   pub local_grows : (log new : Log) (entries : List Entry) (found now left : Hand) (last : ℕ) (g : Gathered) (owed next : Owing) (x : Made) →
       SoFar file limits era t before log entries found now last g owed → MakesLocal file limits.harts era t x now left →
-      AreNumbered (length g.events) x.checks → new ≡ log ++ all_touches (flat x.checks) →
+      AreNumbered (length g.events) x.checks → new ≡ log ++ all_touches (checks_in x.checks) →
       (thread_needs file t now.bare.thread ≡ true → now.watched.label ≢ None) → ((l : Label) → owed ≡ leave_of l → ⊥) → IsPaidBy file t now owed next →
       SoFar file limits era t before new entries found left last (gathered_with g x.events x.checks) next
   local_grows log new entries found now left last g owed next x s m n log_is label unspent paid =
@@ -140,8 +137,8 @@ module _ (file : List ℕ) (limits : Limits) (era t : ℕ) (before : Stamped Han
         along = s.along;
         log_is =
             let items = flat_map (λ (items : Log). items) s.stretches in
-            log_is ∙ (ap (λ (l : Log). l ++ all_touches (flat x.checks)) s.log_is
-            ∙ (append_assoc items (all_touches g.checks) (all_touches (flat x.checks)) ∙ ap (λ (l : Log). items ++ l) (sym (touches_push g.checks (flat x.checks)))));
+            log_is ∙ (ap (λ (l : Log). l ++ all_touches (checks_in x.checks)) s.log_is
+            ∙ (append_assoc items (all_touches g.checks) (all_touches (checks_in x.checks)) ∙ ap (λ (l : Log). items ++ l) (sym (touches_append g.checks (checks_in x.checks)))));
         entries_are = s.entries_are;
         gathered = gather found now g s.gathered x left m n;
         owing = s.owing;
@@ -176,20 +173,20 @@ module _ (file : List ℕ) (limits : Limits) (era t : ℕ) (before : Stamped Han
             let r : length (is.made ++ one ∷ []) ≡ length is.made + 1 = length-append is.made (one ∷ []) in omega (arith, p, q, r);
         note = tells.note;
         events = tells.events ∙ (ap (λ (fs : List Event). fs ++ es) is.events ∙ sym (events_push is.made one));
-        checks = tells.checks ∙ (ap (λ (cs : List Check). cs ++ flat css) is.checks
-            ∙ (sym (flat_push (all_checks is.made) css) ∙ ap flat (sym (checks_push is.made one))));
+        checks = tells.checks ∙ (ap (λ (cs : List Check). cs ++ checks_in css) is.checks
+            ∙ (sym (checks_append (all_checks is.made) css) ∙ ap checks_in (sym (checks_push is.made one))));
         numbered = subst (AreNumbered 0) (sym (checks_push is.made one)) (numbered_with found now g is css numbered);
       }
 
       -- its stretch
       abbrev pub made_stretch : ℕ → Log
-      made_stretch number = all_touches g.checks ++ Take k number ∷ (all_touches (flat css) ++ Give k number x y ∷ [])
+      made_stretch number = all_touches g.checks ++ Take k number ∷ (all_touches (checks_in css) ++ Give k number x y ∷ [])
 
       made_stretch_is : (number : ℕ) → IsStretch made_deed (made_stretch number)
       made_stretch_is number = record {
         first = length g.events;
         early = g.checks;
-        late = flat css;
+        late = checks_in css;
         number = number;
         checks = tells.checks;
         early_events = subst (λ (cs : List Check). Each (λ (c : Check). c.event < length g.events) cs) (sym is.checks)
@@ -256,7 +253,7 @@ module _ (file : List ℕ) (limits : Limits) (era t : ℕ) (before : Stamped Han
           (s : SoFar file limits era t before log entries found now last g owed)
           (makes : MakesInstruction file limits.harts era t k loads es css now left (place_in file limits k x) (place_in file limits k y))
           (alive : IsAlive now.bare) (at : IsPlaceOf k t (next_object file t now.bare.thread)) (at_object : k ≤ desk)
-          (turn : IsTurn k log new number (all_touches (flat css)) x y last stamp)
+          (turn : IsTurn k log new number (all_touches (checks_in css)) x y last stamp)
           (label : thread_needs file t now.bare.thread ≡ true → now.watched.label ≢ None)
           (unspent : (l : Label) → owed ≡ leave_of l → ⊥) (paid : IsPaidBy file t now owed nothing) (owing : IsOwedBy limits now.watched es next) where
         is_deed : IsHandDeed file limits era (hand_deed file limits made_deed)
@@ -287,7 +284,7 @@ module _ (file : List ℕ) (limits : Limits) (era t : ℕ) (before : Stamped Han
         log_with : new ≡ flat_map (λ (items : Log). items) (s.stretches ++ made_stretch number ∷ [])
         log_with =
             let items = flat_map (λ (xs : Log). xs) s.stretches in
-            let turned = Take k number ∷ (all_touches (flat css) ++ Give k number x y ∷ []) in
+            let turned = Take k number ∷ (all_touches (checks_in css) ++ Give k number x y ∷ []) in
             turn.log ∙ (ap (λ (l : Log). l ++ turned) s.log_is
             ∙ (append_assoc items (all_touches g.checks) turned ∙ sym (items_push s.stretches (made_stretch number))))
 
@@ -301,7 +298,7 @@ module _ (file : List ℕ) (limits : Limits) (era t : ℕ) (before : Stamped Han
       SoFar file limits era t before log entries found now last g owed →
       MakesInstruction file limits.harts era t k loads es css now left (place_in file limits k x) (place_in file limits k y) → IsAlive now.bare →
       IsPlaceOf k t (next_object file t now.bare.thread) → k ≤ desk → AreNumbered (length g.events) css →
-      IsTurn k log new number (all_touches (flat css)) x y last stamp → IsEntryWith t g es css stamp e →
+      IsTurn k log new number (all_touches (checks_in css)) x y last stamp → IsEntryWith t g es css stamp e →
       (thread_needs file t now.bare.thread ≡ true → now.watched.label ≢ None) → ((l : Label) → owed ≡ leave_of l → ⊥) → IsPaidBy file t now owed nothing →
       IsOwedBy limits now.watched es next → SoFar file limits era t before new (entries ++ e ∷ []) left left stamp nothing_gathered next
   object_grows log new entries found now left last g owed next k loads es css x y e stamp number s makes alive at at_object numbered turn tells label unspent paid owing =

@@ -28,6 +28,10 @@ use Rattle.hart_parts.specs.Parts.{Try, Part, left_in, part_entries, HasEnded, W
 
 -- ---- instructions that were gathered
 
+-- the checks of all events, where each event has its own
+abbrev pub checks_in : List (List Check) → List Check
+checks_in css = flat_map (λ (cs : List Check). cs) css
+
 -- how many instructions a thread has made since its last deed, their events, and the checks of these
 pub record Gathered : Type 0 where
   pub steps : ℕ
@@ -55,12 +59,12 @@ pub record IsGathered (file : List ℕ) (harts era t : ℕ) (found now : Hand) (
   pub local : AreLocal file harts era t made found now
   pub steps : g.steps ≡ length made
   pub events : g.events ≡ all_events made
-  pub checks : g.checks ≡ flat_map (λ (cs : List Check). cs) (all_checks made)
+  pub checks : g.checks ≡ checks_in (all_checks made)
   pub numbered : AreNumbered 0 (all_checks made)
 
 -- one more instruction, with these events and the checks of each
 abbrev pub gathered_with : Gathered → List Event → List (List Check) → Gathered
-gathered_with g es css = record { steps = g.steps + 1; events = g.events ++ es; checks = g.checks ++ flat_map (λ (cs : List Check). cs) css }
+gathered_with g es css = record { steps = g.steps + 1; events = g.events ++ es; checks = g.checks ++ checks_in css }
 
 -- ---- what is owed
 
@@ -165,7 +169,7 @@ pub record IsEntryWith (t : ℕ) (g : Gathered) (es : List Event) (css : List (L
   pub steps : e.steps ≡ g.steps + 1
   pub note : e.note ≡ Nothing
   pub events : e.events ≡ g.events ++ es
-  pub checks : e.checks ≡ g.checks ++ flat_map (λ (cs : List Check). cs) css
+  pub checks : e.checks ≡ g.checks ++ checks_in css
   pub stamp_is : e.stamp ≡ stamp
 
 -- and the entry of what was gathered alone

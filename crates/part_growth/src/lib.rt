@@ -1,2 +1,94 @@
-//! How a worker's part of a round grows: by instructions that use no object, by turns of an object, by slots taken and left.
+//! How a worker's part of a round grows.
+//!
+//! A worker keeps of its part what stands so far (`SoFar`): the deeds of its thread at objects, the log of its seat, the entries, the
+//! instructions that were gathered since the last deed, and what is owed. The laws say what each step of its loop makes of that. An
+//! instruction without an object is gathered. One at an object makes a deed of all that were gathered and of itself. A slot is taken
+//! or left in a turn of the desk. At the end nothing is owed, and what was gathered last gets an entry of its own: then all of it is
+//! a part as a round has it (`IsPart`).
+//!
+//! `hart_parts` stands below this crate, with what is below it. Its functions do nothing: the contract of each is a law. The layer
+//! above carries `SoFar` along a worker's loop, cites a law for each turn of it, and gets `IsPart` from `finish_law`.
 #![tactic(auto)]
+
+ghost use Rattle.std.specs.Prelude.{◌≡◌, ◌≢◌, ◌≤◌, ℕ, true, List, [], ◌∷◌, ◌++◌, length, Option, None};
+ghost use Rattle.run_record.specs.declared.limits.Limits.{Limits};
+ghost use Rattle.run_record.specs.declared.event.Event.{Event};
+ghost use Rattle.run_record.specs.declared.entry.Check.{Check};
+ghost use Rattle.run_record.specs.declared.entry.Entry.{Entry};
+ghost use Rattle.run_record.specs.declared.entry.Label.{Label};
+ghost use Rattle.run_record.specs.declared.entry.DeskNote.TheVariants.{Attach, Leave};
+ghost use Rattle.bare_machine.specs.Step.{desk};
+ghost use Rattle.bare_machine.specs.Preview.{thread_needs};
+ghost use Rattle.turn_orders.specs.LineUp.{Stamped, with_stamp};
+ghost use Rattle.watched_turns.specs.Checking.{Loads};
+ghost use Rattle.turn_histories.specs.Entries.{IsAlive, IsPlaceOf, next_object};
+ghost use Rattle.shared_table.specs.declared.object.Object.{Object};
+ghost use Rattle.shared_table.specs.Past.{Log};
+ghost use Rattle.placed_detector.specs.Standing.{Hand};
+ghost use Rattle.placed_detector.specs.Instructions.{MakesInstruction};
+ghost use Rattle.placed_detector.specs.Slots.{TakesSlot, LeavesSlot};
+ghost use Rattle.deed_histories.specs.Deeds.{Made, AreNumbered, TellsNote};
+ghost use Rattle.hart_parts.specs.Parts.{Try, all_touches, try_items};
+ghost use Rattle.part_growth.specs.Growth.{checks_in, Gathered, nothing_gathered, MakesLocal, gathered_with, Owing, nothing, needy, leave_of};
+ghost use Rattle.part_growth.specs.Growth.{IsPaidBy, IsOwedBy, IsEntryWith, SoFar, place_in, IsTurn, HasAttached, made_so_far, Stops, IsLastOf};
+ghost use Rattle.part_growth.specs.Growth.{with_last, stamp_with, IsFinished};
+
+/// A part begins with what its thread had, and owes nothing.
+pub fn begins_law()
+    ensures { (file : List ℕ) (limits : Limits) (era t : ℕ) (before : Stamped Hand) →
+        SoFar file limits era t before [] [] before.state before.state before.last nothing_gathered nothing }
+{}
+
+/// An instruction that uses no object is gathered. Its checks are numbered after the events that were gathered before.
+pub fn local_law()
+    ensures { (file : List ℕ) (limits : Limits) (era t : ℕ) (before : Stamped Hand) (log new : Log) (entries : List Entry)
+        (found now left : Hand) (last : ℕ) (g : Gathered) (owed next : Owing) (x : Made) →
+        SoFar file limits era t before log entries found now last g owed → MakesLocal file limits.harts era t x now left →
+        AreNumbered (length g.events) x.checks → new ≡ log ++ all_touches (checks_in x.checks) →
+        (thread_needs file t now.bare.thread ≡ true → now.watched.label ≢ None) → ((l : Label) → owed ≡ leave_of l → ⊥) →
+        IsPaidBy file t now owed next →
+        SoFar file limits era t before new entries found left last (gathered_with g x.events x.checks) next }
+{}
+
+/// An instruction at an object is the last one of a deed, whose other instructions are those that were gathered. Its checks are within
+/// its turn of the object. Nothing is gathered after it.
+pub fn object_law()
+    ensures { (file : List ℕ) (limits : Limits) (era t : ℕ) (before : Stamped Hand) (log new : Log) (entries : List Entry)
+        (found now left : Hand) (last : ℕ) (g : Gathered) (owed next : Owing) (k : ℕ) (loads : Loads) (es : List Event)
+        (css : List (List Check)) (x y : Object) (e : Entry) (stamp number : ℕ) →
+        SoFar file limits era t before log entries found now last g owed →
+        MakesInstruction file limits.harts era t k loads es css now left (place_in file limits k x) (place_in file limits k y) →
+        IsAlive now.bare → IsPlaceOf k t (next_object file t now.bare.thread) → k ≤ desk → AreNumbered (length g.events) css →
+        IsTurn k log new number (all_touches (checks_in css)) x y last stamp → IsEntryWith t g es css stamp e →
+        (thread_needs file t now.bare.thread ≡ true → now.watched.label ≢ None) → ((l : Label) → owed ≡ leave_of l → ⊥) →
+        IsPaidBy file t now owed nothing → IsOwedBy limits now.watched es next →
+        SoFar file limits era t before new (entries ++ e ∷ []) left left stamp nothing_gathered next }
+{}
+
+/// A slot is taken in a turn of the desk, and an instruction that needs it is owed. The deed stands before the instructions that were
+/// gathered: these read no label, and lead on from what the thread has with the slot. A slot that was spent is left in a turn of the
+/// desk too, and then nothing is owed.
+pub fn slot_law()
+    ensures taken { (file : List ℕ) (limits : Limits) (era t : ℕ) (before : Stamped Hand) (log new : Log) (entries : List Entry)
+        (found now left : Hand) (last : ℕ) (g : Gathered) (label : Label) (x y : Object) (e : Entry) (stamp number : ℕ) →
+        SoFar file limits era t before log entries found now last g nothing →
+        TakesSlot limits era t label now left (place_in file limits desk x) (place_in file limits desk y) →
+        IsTurn desk log new number [] x y last stamp → TellsNote t (Attach label) e → e.stamp ≡ stamp →
+        HasAttached file limits era t before new (entries ++ e ∷ []) left stamp g }
+    ensures left { (file : List ℕ) (limits : Limits) (era t : ℕ) (before : Stamped Hand) (log new : Log) (entries : List Entry)
+        (now : Hand) (last : ℕ) (l : Label) (x y : Object) (e : Entry) (stamp number : ℕ) →
+        SoFar file limits era t before log entries now now last nothing_gathered (leave_of l) →
+        LeavesSlot era t l now (place_in file limits desk x) (place_in file limits desk y) →
+        IsTurn desk log new number [] x y last stamp → TellsNote t (Leave l) e → e.stamp ≡ stamp →
+        SoFar file limits era t before new (entries ++ e ∷ []) now now stamp nothing_gathered nothing }
+{}
+
+/// Where nothing is owed any more a part ends: with an entry of what was gathered last, if it is anything, and with the turn of the desk
+/// that found no slot, if it made one.
+pub fn finish_law()
+    ensures { (file : List ℕ) (limits : Limits) (era t : ℕ) (before : Stamped Hand) (log new : Log) (entries : List Entry)
+        (found now : Hand) (last : ℕ) (g : Gathered) (given : ℕ) (tried : Option Try) (entry : Option Entry) →
+        SoFar file limits era t before log entries found now last g nothing → IsLastOf t g last entry → new ≡ log ++ try_items tried →
+        now.given ≡ None → Stops file limits t given (made_so_far entries g) now tried →
+        IsFinished file limits era t given before new (with_last entries entry) (with_stamp now (stamp_with last entry)) }
+{}
