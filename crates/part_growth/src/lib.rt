@@ -29,7 +29,7 @@ ghost use Rattle.placed_detector.specs.Instructions.{MakesInstruction};
 ghost use Rattle.placed_detector.specs.Slots.{TakesSlot, LeavesSlot};
 ghost use Rattle.deed_histories.specs.Deeds.{Made, AreNumbered, TellsNote};
 ghost use Rattle.hart_parts.specs.Parts.{Try, all_touches, try_items};
-ghost use Rattle.part_growth.specs.Growth.{checks_in, Gathered, nothing_gathered, MakesLocal, gathered_with, Owing, nothing, needy, leave_of};
+ghost use Rattle.part_growth.specs.Growth.{checks_in, Gathered, nothing_gathered, MakesLocal, gathered_with, Owing, nothing, leave_of};
 ghost use Rattle.part_growth.specs.Growth.{IsPaidBy, IsOwedBy, IsEntryWith, SoFar, place_in, IsTurn, HasAttached, made_so_far, Stops, IsLastOf};
 ghost use Rattle.part_growth.specs.Growth.{with_last, stamp_with, IsFinished};
 
