@@ -6,3 +6,4 @@ pub mod Growing
 pub mod Slots
 pub mod Notes
 pub mod Finishing
+pub mod Plain

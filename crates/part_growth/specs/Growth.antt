@@ -1,5 +1,5 @@
 -- How a part of a round grows: instructions are gathered, and become a deed with the turn of an object.
-use Rattle.std.specs.Prelude.{◌≡◌, ◌≢◌, ◌<◌, ◌≤◌, ◌+◌, ◌⊎◌, max, ℕ, true, List, [], ◌∷◌, ◌++◌, length, sum_by, Option, None, Some}
+use Rattle.std.specs.Prelude.{◌≡◌, ◌≢◌, ◌<◌, ◌≤◌, ◌+◌, ◌⊎◌, max, ℕ, zero, suc, true, false, List, [], ◌∷◌, ◌++◌, length, sum_by, Option, None, Some}
 use Rattle.std.specs.List.{AllZip, flat_map}
 use Rattle.run_record.specs.declared.limits.Limits.{Limits}
 use Rattle.run_record.specs.declared.event.Event.{Event}
@@ -14,7 +14,8 @@ use Rattle.turn_orders.specs.LineUp.{Stamped, with_stamp, LocalsFollow, last_loc
 use Rattle.machine_laws.specs.Events.{is_local}
 use Rattle.run_laws.specs.Labels.{raises}
 use Rattle.race_core.specs.Watched.{Watched}
-use Rattle.place_turns.specs.Places.{Value}
+use Rattle.place_turns.specs.Places.{Local, Value}
+use Rattle.place_turns.specs.Turns.{steps, bare_turn}
 use Rattle.turn_histories.specs.Entries.{IsAlive, next_object}
 use Rattle.shared_table.specs.declared.object.Object.{Object}
 use Rattle.shared_table.specs.declared.view.Item.TheVariants.{Take, Give}
@@ -65,6 +66,26 @@ pub record IsGathered (file : List ℕ) (harts era t : ℕ) (found now : Hand) (
 -- one more instruction, with these events and the checks of each
 abbrev pub gathered_with : Gathered → List Event → List (List Check) → Gathered
 gathered_with g es css = record { steps = g.steps + 1; events = g.events ++ es; checks = g.checks ++ checks_in css }
+
+-- An instruction without an object, without events and without need of a slot, from one own state of the thread to another.
+pub record IsPlain (file : List ℕ) (harts t : ℕ) (found left : Local) : Type 0 where
+  pub alive : IsAlive found
+  pub without_object : next_object file t found.thread ≡ None
+  pub without_need : thread_needs file t found.thread ≡ false
+  pub turned : (v : Value) → bare_turn file harts t steps found v ≡ record { local = left; value = v; told = [] }
+
+-- so many of these, one after another
+abbrev pub ArePlain : List ℕ → ℕ → ℕ → ℕ → Local → Local → Type 0
+ArePlain file harts t zero found left = found ≡ left
+ArePlain file harts t (suc n) found left = (next : Local) × ArePlain file harts t n found next × IsPlain file harts t next left
+
+-- the thread with that own state, and all else as it was
+abbrev pub with_bare : Hand → Local → Hand
+with_bare l bare = record { bare = bare; watched = l.watched; given = l.given }
+
+-- so many more, without events
+abbrev pub gathered_more : Gathered → ℕ → Gathered
+gathered_more g n = record { steps = g.steps + n; events = g.events; checks = g.checks }
 
 -- ---- what is owed
 

@@ -10,16 +10,19 @@
 //! above carries `SoFar` along a worker's loop, cites a law for each turn of it, and gets `IsPart` from `finish_law`.
 #![tactic(auto)]
 
-ghost use Rattle.std.specs.Prelude.{◌≡◌, ◌≢◌, ◌≤◌, ℕ, true, List, [], ◌∷◌, ◌++◌, length, Option, None};
+ghost use Rattle.std.specs.Prelude.{◌≡◌, ◌≢◌, ◌≤◌, ℕ, true, List, [], ◌∷◌, ◌++◌, length, Option, None, Some};
 ghost use Rattle.run_record.specs.declared.limits.Limits.{Limits};
 ghost use Rattle.run_record.specs.declared.event.Event.{Event};
 ghost use Rattle.run_record.specs.declared.entry.Check.{Check};
 ghost use Rattle.run_record.specs.declared.entry.Entry.{Entry};
 ghost use Rattle.run_record.specs.declared.entry.Label.{Label};
 ghost use Rattle.run_record.specs.declared.entry.DeskNote.TheVariants.{Attach, Leave};
+ghost use Rattle.bare_machine.specs.declared.thread.Thread.{Thread};
+ghost use Rattle.bare_machine.specs.Locals.{MakesLocals};
 ghost use Rattle.bare_machine.specs.Step.{desk};
 ghost use Rattle.bare_machine.specs.Preview.{thread_needs};
 ghost use Rattle.turn_orders.specs.LineUp.{Stamped, with_stamp};
+ghost use Rattle.place_turns.specs.Places.{Local};
 ghost use Rattle.watched_turns.specs.Checking.{Loads};
 ghost use Rattle.turn_histories.specs.Entries.{IsAlive, IsPlaceOf, next_object};
 ghost use Rattle.shared_table.specs.declared.object.Object.{Object};
@@ -31,7 +34,7 @@ ghost use Rattle.deed_histories.specs.Deeds.{Made, AreNumbered, TellsNote};
 ghost use Rattle.hart_parts.specs.Parts.{Try, all_touches, try_items};
 ghost use Rattle.part_growth.specs.Growth.{checks_in, Gathered, nothing_gathered, MakesLocal, gathered_with, Owing, nothing, leave_of};
 ghost use Rattle.part_growth.specs.Growth.{IsPaidBy, IsOwedBy, IsEntryWith, SoFar, place_in, IsTurn, HasAttached, made_so_far, Stops, IsLastOf};
-ghost use Rattle.part_growth.specs.Growth.{with_last, stamp_with, IsFinished};
+ghost use Rattle.part_growth.specs.Growth.{ArePlain, with_bare, gathered_more, with_last, stamp_with, IsFinished};
 
 /// A part begins with what its thread had, and owes nothing.
 pub fn begins_law()
@@ -48,6 +51,18 @@ pub fn local_law()
         (thread_needs file t now.bare.thread ≡ true → now.watched.label ≢ None) → ((l : Label) → owed ≡ leave_of l → ⊥) →
         IsPaidBy file t now owed next →
         SoFar file limits era t before new entries found left last (gathered_with g x.events x.checks) next }
+{}
+
+/// Instructions that touch registers alone are gathered, so many at once: no log, entry or watcher changes. Such are those that a thread
+/// which lives makes in a row of its file's code.
+pub fn plain_law()
+    ensures gathered { (file : List ℕ) (limits : Limits) (era t : ℕ) (before : Stamped Hand) (log : Log) (entries : List Entry)
+        (found now : Hand) (last : ℕ) (g : Gathered) (owed : Owing) (n : ℕ) (bare : Local) →
+        SoFar file limits era t before log entries found now last g owed → now.watched.era ≡ era → ((l : Label) → owed ≡ leave_of l → ⊥) →
+        ArePlain file limits.harts t n now.bare bare →
+        SoFar file limits era t before log entries found (with_bare now bare) last (gathered_more g n) owed }
+    ensures made { (file : List ℕ) (harts t n : ℕ) (old new : Thread) (reserved : Option ℕ) → old.lives ≡ true → MakesLocals file old n new →
+        ArePlain file harts t n (record { thread = Some old; reserved = reserved }) (record { thread = Some new; reserved = reserved }) }
 {}
 
 /// An instruction at an object is the last one of a deed, whose other instructions are those that were gathered. Its checks are within
