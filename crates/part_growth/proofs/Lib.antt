@@ -7,3 +7,4 @@ pub mod Slots
 pub mod Notes
 pub mod Finishing
 pub mod Plain
+pub mod Alone

@@ -10,7 +10,7 @@
 //! above carries `SoFar` along a worker's loop, cites a law for each turn of it, and gets `IsPart` from `finish_law`.
 #![tactic(auto)]
 
-ghost use Rattle.std.specs.Prelude.{◌≡◌, ◌≢◌, ◌≤◌, ℕ, true, List, [], ◌∷◌, ◌++◌, length, Option, None, Some};
+ghost use Rattle.std.specs.Prelude.{◌≡◌, ◌≢◌, ◌≤◌, ℕ, true, false, List, [], ◌∷◌, ◌++◌, length, Option, None, Some};
 ghost use Rattle.run_record.specs.declared.limits.Limits.{Limits};
 ghost use Rattle.run_record.specs.declared.event.Event.{Event};
 ghost use Rattle.run_record.specs.declared.entry.Check.{Check};
@@ -22,7 +22,10 @@ ghost use Rattle.bare_machine.specs.Locals.{MakesLocals};
 ghost use Rattle.bare_machine.specs.Step.{desk};
 ghost use Rattle.bare_machine.specs.Preview.{thread_needs};
 ghost use Rattle.turn_orders.specs.LineUp.{Stamped, with_stamp};
-ghost use Rattle.place_turns.specs.Places.{Local};
+ghost use Rattle.machine_laws.specs.Events.{is_local, is_put};
+ghost use Rattle.place_turns.specs.Places.{Local, Value};
+ghost use Rattle.place_turns.specs.Turns.{Turned, steps, bare_turn};
+ghost use Rattle.turn_orders.specs.Lists.{Each};
 ghost use Rattle.watched_turns.specs.Checking.{Loads};
 ghost use Rattle.turn_histories.specs.Entries.{IsAlive, IsPlaceOf, next_object};
 ghost use Rattle.shared_table.specs.declared.object.Object.{Object};
@@ -96,6 +99,17 @@ pub fn slot_law()
         LeavesSlot era t l now (place_in file limits desk x) (place_in file limits desk y) →
         IsTurn desk log new number [] x y last stamp → TellsNote t (Leave l) e → e.stamp ≡ stamp →
         SoFar file limits era t before new (entries ++ e ∷ []) now now stamp nothing_gathered nothing }
+{}
+
+/// What an instruction tells: without an object, events that are local to its thread; without need of a slot, nothing but bytes that
+/// it puts; and without both, nothing.
+pub fn told_law()
+    ensures local { (file : List ℕ) (harts t : ℕ) (found left : Local) (v : Value) (es : List Event) → next_object file t found.thread ≡ None →
+        bare_turn file harts t steps found v ≡ record { local = left; value = v; told = es } → Each (λ (e : Event). is_local e ≡ true) es }
+    ensures puts { (file : List ℕ) (harts t : ℕ) (found : Local) (v : Value) (left : Turned) → thread_needs file t found.thread ≡ false →
+        bare_turn file harts t steps found v ≡ left → Each (λ (e : Event). is_put e ≡ true) left.told }
+    ensures silent { (file : List ℕ) (harts t : ℕ) (found left : Local) (v : Value) (es : List Event) → next_object file t found.thread ≡ None →
+        thread_needs file t found.thread ≡ false → bare_turn file harts t steps found v ≡ record { local = left; value = v; told = es } → es ≡ [] }
 {}
 
 /// Where nothing is owed any more a part ends: with an entry of what was gathered last, if it is anything, and with the turn of the desk
