@@ -127,7 +127,8 @@ first_local x = go x.began
     go true = tt
     go false = (refl, tt)
 
-served_local : (harts t : ℕ) (l : Local) (v : Value) (x : Thread) (r : Request) → TellsLocal r → object_of r ≡ None → AreLocalEvents (served harts t l v x r).told
+served_local : (harts t : ℕ) (l : Local) (v : Value) (x : Thread) (r : Request) → TellsLocal r → object_of r ≡ None →
+    AreLocalEvents (served harts t l v x r).told
 served_local harts t l v x (done r) tells none = each_append (λ (e : Event). is_local e ≡ true) (first_events x) [] (first_local x) tt
 served_local harts t l v x (returned call answer None) tells none =
     each_append (λ (e : Event). is_local e ≡ true) (first_events x) (events_by call (outcome x false (unwrap_or answer 0))) (first_local x)
@@ -140,7 +141,8 @@ served_local harts t l v x (create pc argument stack) tells none = absurd (cc)
 served_local harts t l v x (join n) tells none = absurd (cc)
 served_local harts t l v x (stop end) tells none = absurd (cc)
 
-stepped_local : (file : List ℕ) (harts t : ℕ) (l : Local) (v : Value) (o : Option Thread) → next_object file t o ≡ None → AreLocalEvents (stepped file harts t l v o).told
+stepped_local : (file : List ℕ) (harts t : ℕ) (l : Local) (v : Value) (o : Option Thread) → next_object file t o ≡ None →
+    AreLocalEvents (stepped file harts t l v o).told
 stepped_local file harts t l v None none = tt
 stepped_local file harts t l v (Some x) none = served_local harts t l v x (request file t x) (of_request file t x) none
 
@@ -177,7 +179,8 @@ not_false : (b : Bool) → not b ≡ false → b ≡ true
 not_false true e = refl
 not_false false e = sym e
 
-stepped_puts : (file : List ℕ) (harts t : ℕ) (l : Local) (v : Value) (o : Option Thread) → thread_needs file t o ≡ false → ArePuts (stepped file harts t l v o).told
+stepped_puts : (file : List ℕ) (harts t : ℕ) (l : Local) (v : Value) (o : Option Thread) → thread_needs file t o ≡ false →
+    ArePuts (stepped file harts t l v o).told
 stepped_puts file harts t l v None n = tt
 stepped_puts file harts t l v (Some x) n =
     let parts = or_parts (not x.began) (needs (request file t x)) n in
@@ -210,4 +213,5 @@ none_both (events.Clear addr ∷ es) l p = absurd (let q = p.0 in cc)
 pub told_nothing : (file : List ℕ) (harts t : ℕ) (found left : Local) (v : Value) (es : List Event) → next_object file t found.thread ≡ None →
     thread_needs file t found.thread ≡ false → bare_turn file harts t steps found v ≡ record { local = left; value = v; told = es } → es ≡ []
 told_nothing file harts t found left v es none without turned =
-    none_both es (told_local file harts t found left v es none turned) (told_puts file harts t found v (record { local = left; value = v; told = es }) without turned)
+    none_both es (told_local file harts t found left v es none turned)
+    (told_puts file harts t found v (record { local = left; value = v; told = es }) without turned)

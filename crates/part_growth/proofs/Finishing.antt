@@ -219,7 +219,8 @@ module _ (file : List ℕ) (limits : Limits) (era t : ℕ) (before : Stamped Han
     plain_all o is x = each_append (λ (d : ObjectDeed). IsPlain d.told.entry) s.deeds (rest_deeds t (at_last_object (part o)) x (rest_of o))
         (all_plain file limits era s.deeds s.each) (plain_rest o is (at_last_object (part o)))
       where
-        plain_rest : (p : Option Entry) → IsLastOf t g last p → (h : Stamped Hand) → Each (λ (d : ObjectDeed). IsPlain d.told.entry) (rest_deeds t h x (rest_of p))
+        plain_rest : (p : Option Entry) → IsLastOf t g last p → (h : Stamped Hand) →
+            Each (λ (d : ObjectDeed). IsPlain d.told.entry) (rest_deeds t h x (rest_of p))
         plain_rest None l h = tt
         plain_rest (Some e) l h = (plain_made e l.1.note, tt)
 
@@ -278,8 +279,8 @@ module _ (file : List ℕ) (limits : Limits) (era t : ℕ) (before : Stamped Han
 
 -- A part ends, where nothing is owed any more: with an entry of what was gathered last, if it is anything, and with the turn of the desk that
 -- found no slot, if it made one.
-pub finish : (file : List ℕ) (limits : Limits) (era t : ℕ) (before : Stamped Hand) (log new : Log) (entries : List Entry) (found now : Hand) (last : ℕ) (g : Gathered)
-    (given : ℕ) (tried : Option Try) (o : Option Entry) → SoFar file limits era t before log entries found now last g nothing → IsLastOf t g last o →
+pub finish : (file : List ℕ) (limits : Limits) (era t : ℕ) (before : Stamped Hand) (log new : Log) (entries : List Entry) (found now : Hand) (last : ℕ)
+    (g : Gathered) (given : ℕ) (tried : Option Try) (o : Option Entry) → SoFar file limits era t before log entries found now last g nothing → IsLastOf t g last o →
     new ≡ log ++ try_items tried → now.given ≡ None → Stops file limits t given (made_so_far entries g) now tried →
     IsFinished file limits era t given before new (with_last entries o) (with_stamp now (stamp_with last o))
 finish file limits era t before log new entries found now last g given tried o s is log_is begun stops =

@@ -96,7 +96,8 @@ module _ (file : List ℕ) (limits : Limits) (era t : ℕ) (before : Stamped Han
     gathered_many = ap (λ (es : List Event). length es) is.events ∙ many_checks file limits era t is.made found now is.local
 
     pub gathered_local : Each (λ (e : Event). is_local e ≡ true) g.events
-    gathered_local = subst (λ (es : List Event). Each (λ (e : Event). is_local e ≡ true) es) (sym is.events) (all_local file limits era t is.made found now is.local)
+    gathered_local = subst (λ (es : List Event). Each (λ (e : Event). is_local e ≡ true) es) (sym is.events)
+        (all_local file limits era t is.made found now is.local)
 
     -- all checks are numbered where more are that come next
     pub numbered_with : (css : List (List Check)) → AreNumbered (length g.events) css → AreNumbered 0 (all_checks is.made ++ css)
@@ -138,7 +139,8 @@ module _ (file : List ℕ) (limits : Limits) (era t : ℕ) (before : Stamped Han
         log_is =
             let items = flat_map (λ (items : Log). items) s.stretches in
             log_is ∙ (ap (λ (l : Log). l ++ all_touches (checks_in x.checks)) s.log_is
-            ∙ (append_assoc items (all_touches g.checks) (all_touches (checks_in x.checks)) ∙ ap (λ (l : Log). items ++ l) (sym (touches_append g.checks (checks_in x.checks)))));
+            ∙ (append_assoc items (all_touches g.checks) (all_touches (checks_in x.checks))
+            ∙ ap (λ (l : Log). items ++ l) (sym (touches_append g.checks (checks_in x.checks)))));
         entries_are = s.entries_are;
         gathered = gather found now g s.gathered x left m n;
         owing = s.owing;
@@ -193,7 +195,8 @@ module _ (file : List ℕ) (limits : Limits) (era t : ℕ) (before : Stamped Han
             (before_end 0 (length g.events) (all_checks is.made) (let q = gathered_many found now g is in omega (arith, q)) is.numbered);
         late_events = from_start (length g.events) (length g.events) css (omega arith) numbered;
         local_events = subst (λ (fs : List Event). Each (λ (f : Event). is_local f ≡ true) fs)
-            (sym (ap (take (length g.events)) tells.events ∙ (take-append-le (length g.events) g.events es (omega arith) ∙ take_all (length g.events) g.events (omega arith))))
+            (sym (ap (take (length g.events)) tells.events ∙ (take-append-le (length g.events) g.events es (omega arith)
+            ∙ take_all (length g.events) g.events (omega arith))))
             (gathered_local found now g is);
         items_are = refl;
       }
@@ -301,6 +304,8 @@ module _ (file : List ℕ) (limits : Limits) (era t : ℕ) (before : Stamped Han
       IsTurn k log new number (all_touches (checks_in css)) x y last stamp → IsEntryWith t g es css stamp e →
       (thread_needs file t now.bare.thread ≡ true → now.watched.label ≢ None) → ((l : Label) → owed ≡ leave_of l → ⊥) → IsPaidBy file t now owed nothing →
       IsOwedBy limits now.watched es next → SoFar file limits era t before new (entries ++ e ∷ []) left left stamp nothing_gathered next
-  object_grows log new entries found now left last g owed next k loads es css x y e stamp number s makes alive at at_object numbered turn tells label unspent paid owing =
-      grows found now last g s.gathered k loads es css left x y e stamp tells numbered log new entries owed next number s makes alive at at_object turn label unspent
+  object_grows log new entries found now left last g owed next k loads es css x y e stamp number s makes alive at at_object numbered turn tells label
+      unspent paid owing =
+      grows found now last g s.gathered k loads es css left x y e stamp tells numbered log new entries owed next number s makes alive at at_object
+      turn label unspent
       paid owing

@@ -55,7 +55,8 @@ pub before_end : (n m : ℕ) (css : List (List Check)) → n + length css ≤ m 
 before_end n m [] l h = tt
 before_end n m (cs ∷ css) l h =
     let q : n + suc (length css) ≤ m = l in
-    each_append (λ (c : Check). c.event < m) cs (flat_map (λ (ds : List Check). ds) css) (below n m cs (omega arith) h.0) (before_end (n + 1) m css (omega arith) h.1)
+    each_append (λ (c : Check). c.event < m) cs (flat_map (λ (ds : List Check). ds) css) (below n m cs (omega arith) h.0)
+    (before_end (n + 1) m css (omega arith) h.1)
 
 pub from_start : (n m : ℕ) (css : List (List Check)) → m ≤ n → AreNumbered n css →
     Each (λ (c : Check). m ≤ c.event) (flat_map (λ (cs : List Check). cs) css)

@@ -58,7 +58,8 @@ module _ (file : List ℕ) (limits : Limits) (era t : ℕ) where
   pays_nothing now (leave_of l) without = refl
 
   one_gathered : (g : Gathered) → gathered_with g [] [] ≡ gathered_more g 1
-  one_gathered g = ap₂ (λ (es : List Event) (cs : List Check). record { steps = g.steps + 1; events = es; checks = cs }) (append-nil g.events) (append-nil g.checks)
+  one_gathered g = ap₂ (λ (es : List Event) (cs : List Check). record { steps = g.steps + 1; events = es; checks = cs })
+      (append-nil g.events) (append-nil g.checks)
 
   more_gathered : (g : Gathered) (n : ℕ) → gathered_more (gathered_more g n) 1 ≡ gathered_more g (suc n)
   more_gathered g n = let e : g.steps + n + 1 ≡ g.steps + suc n = omega arith in
@@ -77,7 +78,8 @@ module _ (file : List ℕ) (limits : Limits) (era t : ℕ) where
       (sym (append-nil log)) (λ q. absurd (let r = p.without_need in cc)) unspent (pays_nothing now owed p.without_need))
 
   -- so many instructions that touch registers alone are gathered
-  pub plain_grow : (before : Stamped Hand) (log : Log) (entries : List Entry) (found now : Hand) (last : ℕ) (g : Gathered) (owed : Owing) (n : ℕ) (bare : Local) →
+  pub plain_grow : (before : Stamped Hand) (log : Log) (entries : List Entry) (found now : Hand) (last : ℕ) (g : Gathered) (owed : Owing) (n : ℕ)
+      (bare : Local) →
       SoFar file limits era t before log entries found now last g owed → now.watched.era ≡ era → ((l : Label) → owed ≡ leave_of l → ⊥) →
       ArePlain file limits.harts t n now.bare bare → SoFar file limits era t before log entries found (with_bare now bare) last (gathered_more g n) owed
   plain_grow before log entries found now last g owed zero bare s present unspent p =
@@ -97,7 +99,11 @@ module _ (file : List ℕ) (harts t : ℕ) (x : Thread) (reserved : Option ℕ) 
   one_turned : (q r : Registers) → local file q ≡ Some r → (v : Value) → bare_turn file harts t steps (own q) v ≡ record { local = own r; value = v; told = [] }
   one_turned q r is v =
       ap (served harts t (own q) v (with_registers x q)) (request_local file t (with_registers x q) r is)
-      ∙ (ap (λ (b : Bool). record { local = record (own q) { thread = Some (record x { regs = r; began = true }) }; value = v; told = (if b then [] else Begin ∷ []) ++ [] }) began
+      ∙ (ap (λ (b : Bool). record {
+        local = record (own q) { thread = Some (record x { regs = r; began = true }) };
+        value = v;
+        told = (if b then [] else Begin ∷ []) ++ [];
+      }) began
       ∙ ap (λ (b : Bool). record { local = record (own q) { thread = Some (record x { regs = r; began = b }) }; value = v; told = [] }) (sym began))
 
   one_plain : (q r : Registers) → local file q ≡ Some r → IsPlain file harts t (own q) (own r)
@@ -108,7 +114,8 @@ module _ (file : List ℕ) (harts t : ℕ) (x : Thread) (reserved : Option ℕ) 
     turned = one_turned q r is;
   }
 
-  next_plain : (n : ℕ) (r : Registers) → ((q : Registers) → locals file n x.regs ≡ Some q → ArePlain file harts t n (own x.regs) (own q)) → (o : Option Registers) →
+  next_plain : (n : ℕ) (r : Registers) → ((q : Registers) → locals file n x.regs ≡ Some q → ArePlain file harts t n (own x.regs) (own q)) →
+      (o : Option Registers) →
       locals file n x.regs ≡ o → option_and_then (local file) o ≡ Some r → ArePlain file harts t (suc n) (own x.regs) (own r)
   next_plain n r so_far None e is = absurd (cc)
   next_plain n r so_far (Some q) e is = (own q, so_far q e, one_plain q r is)
@@ -129,5 +136,6 @@ plain_locals file harts t zero old new reserved lives made =
     same_some : (a b : Registers) → Some a ≡ Some b → a ≡ b
     same_some a b q = cc
 plain_locals file harts t (suc n) old new reserved lives made =
-    subst (λ (y : Thread). ArePlain file harts t (suc n) (record { thread = Some old; reserved = reserved }) (record { thread = Some y; reserved = reserved })) (sym made.thread)
+    subst (λ (y : Thread). ArePlain file harts t (suc n) (record { thread = Some old; reserved = reserved }) (record { thread = Some y; reserved = reserved }))
+    (sym made.thread)
     (plain_made_by file harts t old reserved lives (made.began (omega arith)) (suc n) new.regs made.registers)

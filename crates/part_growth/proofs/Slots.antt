@@ -117,8 +117,8 @@ module _ (file : List ℕ) (limits : Limits) (era t : ℕ) (before : Stamped Han
         turn.log ∙ (ap (λ (z : Log). z ++ note_stretch number x y) (s.log_is ∙ append-nil items) ∙ sym (items_push s.stretches (note_stretch number x y)))
 
     leaves_so_far : SoFar file limits era t before new (entries ++ e ∷ []) now now stamp nothing_gathered nothing
-    leaves_so_far = anew file limits era t before new (entries ++ e ∷ []) (s.deeds ++ leave_deed ∷ []) (s.stretches ++ note_stretch number x y ∷ []) now stamp nothing
-        (deeds_push file limits era t before s.deeds s.stretches (with_stamp now last) s.owing leave_deed (note_stretch number x y) nothing
+    leaves_so_far = anew file limits era t before new (entries ++ e ∷ []) (s.deeds ++ leave_deed ∷ []) (s.stretches ++ note_stretch number x y ∷ []) now
+        stamp nothing (deeds_push file limits era t before s.deeds s.stretches (with_stamp now last) s.owing leave_deed (note_stretch number x y) nothing
         (deeds_of file limits era t before log entries now now last nothing_gathered (leave_of l) s) leave_next) leave_log
         (entries_push file limits s.deeds leave_deed entries e s.entries_are refl)
 
@@ -212,7 +212,8 @@ module _ (file : List ℕ) (limits : Limits) (era t : ℕ) where
       let w = labelled (with_clock found.watched (desks.clock_after_attach v.desk found.watched.clock)) label in
       let y = has_arrived x found left m in
       let there = slot_there t label found v m.alive.thread m.alive.arrived in
-      let same = ap₂ (λ (u : Watched) (g : Option (Option (List ℕ))). beside_it (labelled (with_clock u (desks.clock_after_attach v.desk u.clock)) label) g left)
+      let same = ap₂ (λ (u : Watched) (g : Option (Option (List ℕ))).
+      beside_it (labelled (with_clock u (desks.clock_after_attach v.desk u.clock)) label) g left)
       (ap (λ (b : Beside). b.watched) n.same) (ap (λ (b : Beside). b.given) n.same) in
       subst (λ (h : Hand). IsOne x h (with_slot t label left v)) (sym there)
       (subst (λ (h : Hand). IsOne x (beside_it w found.given found) h) (same ∙ sym (slot_there t label left v y.0 y.1))
@@ -247,8 +248,8 @@ module _ (file : List ℕ) (limits : Limits) (era t : ℕ) where
 
   -- ---- the part with the slot
 
-  module _ (before : Stamped Hand) (log new : Log) (entries : List Entry) (found now left : Hand) (last : ℕ) (g : Gathered) (label : Label) (x y : Object) (e : Entry)
-      (stamp number : ℕ) (s : SoFar file limits era t before log entries found now last g nothing)
+  module _ (before : Stamped Hand) (log new : Log) (entries : List Entry) (found now left : Hand) (last : ℕ) (g : Gathered) (label : Label) (x y : Object)
+      (e : Entry) (stamp number : ℕ) (s : SoFar file limits era t before log entries found now last g nothing)
       (takes : TakesSlot limits era t label now left (place_in file limits desk x) (place_in file limits desk y))
       (turn : IsTurn desk log new number [] x y last stamp) (tells : TellsNote t (Attach label) e) (stamp_is : e.stamp ≡ stamp) where
     abbrev place : Held
@@ -319,7 +320,8 @@ module _ (file : List ℕ) (limits : Limits) (era t : ℕ) where
         let turned = note_stretch file limits era t before number x y in
         let none : all_touches g.checks ≡ [] = ap all_touches no_checks in
         turn.log ∙ (ap (λ (z : Log). z ++ turned) (s.log_is ∙ (ap (λ (z : Log). items ++ z) none ∙ append-nil items))
-        ∙ (sym (items_push s.stretches turned) ∙ (sym (append-nil _) ∙ ap (λ (z : Log). flat_map (λ (xs : Log). xs) (s.stretches ++ turned ∷ []) ++ z) (sym none))))
+        ∙ (sym (items_push s.stretches turned) ∙ (sym (append-nil _)
+        ∙ ap (λ (z : Log). flat_map (λ (xs : Log). xs) (s.stretches ++ turned ∷ []) ++ z) (sym none))))
 
     labelled_first : first.watched.label ≢ None
     labelled_first q = absurd (let r : Some label ≡ None = q in cc)
@@ -354,8 +356,8 @@ module _ (file : List ℕ) (limits : Limits) (era t : ℕ) where
     attached_left = subst (λ (h : Hand). SoFar file limits era t before new (entries ++ e ∷ []) first h stamp g needy) (sym takes.hand) attached
 
   -- A slot is taken: the deed is of what the thread had before the instructions that were gathered, and these lead from there on.
-  pub attach_grows : (before : Stamped Hand) (log new : Log) (entries : List Entry) (found now left : Hand) (last : ℕ) (g : Gathered) (label : Label) (x y : Object)
-      (e : Entry) (stamp number : ℕ) → SoFar file limits era t before log entries found now last g nothing →
+  pub attach_grows : (before : Stamped Hand) (log new : Log) (entries : List Entry) (found now left : Hand) (last : ℕ) (g : Gathered) (label : Label)
+      (x y : Object) (e : Entry) (stamp number : ℕ) → SoFar file limits era t before log entries found now last g nothing →
       TakesSlot limits era t label now left (place_in file limits desk x) (place_in file limits desk y) → IsTurn desk log new number [] x y last stamp →
       TellsNote t (Attach label) e → e.stamp ≡ stamp → HasAttached file limits era t before new (entries ++ e ∷ []) left stamp g
   attach_grows before log new entries found now left last g label x y e stamp number s takes turn tells stamp_is = record {

@@ -52,7 +52,8 @@ pub record MakesLocal (file : List ℕ) (harts era t : ℕ) (x : Made) (found le
 -- such instructions, one after another
 abbrev pub AreLocal : List ℕ → ℕ → ℕ → ℕ → List Made → Hand → Hand → Type 0
 AreLocal file harts era t [] found left = found ≡ left
-AreLocal file harts era t (x ∷ xs) found left = (hand : Hand) × MakesLocal file harts era t x found hand × AreLocal file harts era t xs hand left
+AreLocal file harts era t (x ∷ xs) found left =
+    (hand : Hand) × MakesLocal file harts era t x found hand × AreLocal file harts era t xs hand left
 
 -- the thread gathered these, from its last deed on
 pub record IsGathered (file : List ℕ) (harts era t : ℕ) (found now : Hand) (g : Gathered) : Type 0 where
@@ -111,12 +112,14 @@ Owes limits d (leave_of l) = SpendsIn limits d l
 abbrev pub ArePaid : List ℕ → Limits → Owing → List ObjectDeed → Owing → Type 0
 ArePaid file limits owed [] owing = owed ≡ owing
 ArePaid file limits owed (d ∷ ds) owing =
-    (next : Owing) × Meets file limits owed d × Owes limits d next × (IsNeedy file limits d → d.local_found.state.watched.label ≢ None)
+    (next : Owing) × Meets file limits owed d × Owes limits d next
+    × (IsNeedy file limits d → d.local_found.state.watched.label ≢ None)
     × ArePaid file limits next ds owing
 
 -- what is owed after an instruction of the thread in that state, before its events
 abbrev pub IsPaidBy : List ℕ → ℕ → Hand → Owing → Owing → Type 0
-IsPaidBy file t now needy owing = ((owing ≡ needy) × (thread_needs file t now.bare.thread ≢ true)) ⊎ ((owing ≡ nothing) × (thread_needs file t now.bare.thread ≡ true))
+IsPaidBy file t now needy owing =
+    ((owing ≡ needy) × (thread_needs file t now.bare.thread ≢ true)) ⊎ ((owing ≡ nothing) × (thread_needs file t now.bare.thread ≡ true))
 IsPaidBy file t now owed owing = owing ≡ owed
 
 -- ---- needs among what was gathered
@@ -133,8 +136,8 @@ IsOwedWith file harts t found g nothing owed = owed ≡ nothing
 IsOwedWith file harts t found g needy owed = (owed ≡ needy) ⊎ ((owed ≡ nothing) × NeedsWithin file harts t found g)
 IsOwedWith file harts t found g (leave_of l) owed = (owed ≡ leave_of l) × (g.steps ≡ 0)
 
--- what the last of an instruction's events leaves to be owed, where the thread's watcher was that before it: the leave of its slot,
--- where the event raises the greatest epoch
+-- what the last of an instruction's events leaves to be owed, where the thread's watcher was that before it: the leave
+-- of its slot, where the event raises the greatest epoch
 pub record SpendsBy (limits : Limits) (w : Watched) (es : List Event) (l : Label) : Type 0 where
   pub before : List Event
   pub event : Event
