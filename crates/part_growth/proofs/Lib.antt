@@ -8,3 +8,5 @@ pub mod Notes
 pub mod Finishing
 pub mod Plain
 pub mod Alone
+pub mod Spending
+pub mod Order

@@ -1,5 +1,5 @@
 -- How a part of a round grows: instructions are gathered, and become a deed with the turn of an object.
-use Rattle.std.specs.Prelude.{◌≡◌, ◌≢◌, ◌<◌, ◌≤◌, ◌+◌, ◌⊎◌, max, ℕ, zero, suc, true, false, List, [], ◌∷◌, ◌++◌, length, sum_by, Option, None, Some}
+use Rattle.std.specs.Prelude.{◌≡◌, ◌≢◌, ◌<◌, ◌≤◌, ◌+◌, ◌⊎◌, ◌==◌, if◌then◌else◌, max, ℕ, zero, suc, true, false, List, [], ◌∷◌, ◌++◌, length, sum_by, Option, None, Some}
 use Rattle.std.specs.List.{AllZip, flat_map}
 use Rattle.run_record.specs.declared.limits.Limits.{Limits}
 use Rattle.run_record.specs.declared.event.Event.{Event}
@@ -14,6 +14,7 @@ use Rattle.turn_orders.specs.LineUp.{Stamped, with_stamp, LocalsFollow, last_loc
 use Rattle.machine_laws.specs.Events.{is_local}
 use Rattle.run_laws.specs.Labels.{raises}
 use Rattle.race_core.specs.Watched.{Watched}
+use Rattle.thread_events.specs.Heard.{lost_label}
 use Rattle.place_turns.specs.Places.{Local, Value}
 use Rattle.place_turns.specs.Turns.{steps, bare_turn}
 use Rattle.turn_histories.specs.Entries.{IsAlive, next_object}
@@ -150,6 +151,15 @@ abbrev pub IsOwedBy : Limits → Watched → List Event → Owing → Type 0
 IsOwedBy limits w es nothing = (l : Label) → SpendsBy limits w es l → ⊥
 IsOwedBy limits w es needy = ⊥
 IsOwedBy limits w es (leave_of l) = SpendsBy limits w es l
+
+-- the label that the event spends, where the thread's watcher was that before it
+abbrev pub spent_by : Event → Watched → Option Label
+spent_by e w = if raises e == 1 then lost_label w else None
+
+-- and what is owed then
+abbrev pub owing_of : Option Label → Owing
+owing_of None = nothing
+owing_of (Some l) = leave_of l
 
 -- ---- a part so far
 

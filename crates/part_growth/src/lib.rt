@@ -21,6 +21,11 @@ ghost use Rattle.bare_machine.specs.declared.thread.Thread.{Thread};
 ghost use Rattle.bare_machine.specs.Locals.{MakesLocals};
 ghost use Rattle.bare_machine.specs.Step.{desk};
 ghost use Rattle.bare_machine.specs.Preview.{thread_needs};
+ghost use Rattle.run_laws.specs.Labels.{raises, is_end};
+ghost use Rattle.slot_desk.specs.Desks.{DeskContents};
+ghost use Rattle.sync_slab.specs.Objects.{SyncObjects};
+ghost use Rattle.race_core.specs.Watched.{Watched};
+ghost use Rattle.thread_events.specs.Heard.{watcher_after};
 ghost use Rattle.turn_orders.specs.LineUp.{Stamped, with_stamp};
 ghost use Rattle.machine_laws.specs.Events.{is_local, is_put};
 ghost use Rattle.place_turns.specs.Places.{Local, Value};
@@ -37,7 +42,7 @@ ghost use Rattle.deed_histories.specs.Deeds.{Made, AreNumbered, TellsNote};
 ghost use Rattle.hart_parts.specs.Parts.{Try, all_touches, try_items};
 ghost use Rattle.part_growth.specs.Growth.{checks_in, Gathered, nothing_gathered, MakesLocal, gathered_with, Owing, nothing, leave_of};
 ghost use Rattle.part_growth.specs.Growth.{IsPaidBy, IsOwedBy, IsEntryWith, SoFar, place_in, IsTurn, HasAttached, made_so_far, Stops, IsLastOf};
-ghost use Rattle.part_growth.specs.Growth.{ArePlain, with_bare, gathered_more, with_last, stamp_with, IsFinished};
+ghost use Rattle.part_growth.specs.Growth.{spent_by, owing_of, ArePlain, with_bare, gathered_more, with_last, stamp_with, IsFinished};
 
 /// A part begins with what its thread had, and owes nothing.
 pub fn begins_law()
@@ -110,6 +115,20 @@ pub fn told_law()
         bare_turn file harts t steps found v ≡ left → Each (λ (e : Event). is_put e ≡ true) left.told }
     ensures silent { (file : List ℕ) (harts t : ℕ) (found left : Local) (v : Value) (es : List Event) → next_object file t found.thread ≡ None →
         thread_needs file t found.thread ≡ false → bare_turn file harts t steps found v ≡ record { local = left; value = v; told = es } → es ≡ [] }
+{}
+
+/// Which label an instruction spends: only its last event can raise an epoch or end the thread, so that the thread has until then the
+/// label with which it began. What is owed after it is the leave of the label that its last event spends, if any.
+pub fn spent_law()
+    ensures quiet { (file : List ℕ) (harts t : ℕ) (found : Local) (v : Value) (left : Turned) (before after : List Event)
+        (event next : Event) → bare_turn file harts t steps found v ≡ left → left.told ≡ before ++ event ∷ (next ∷ after) →
+        (raises event ≡ 0) × (is_end event ≡ false) }
+    ensures stays { (told : Option (List ℕ)) (set : SyncObjects) (d : DeskContents) (e : Event) (w : Watched) → raises e ≡ 0 →
+        is_end e ≡ false → (watcher_after told set d e w).label ≡ w.label }
+    ensures unspent { (limits : Limits) (w : Watched) → IsOwedBy limits w [] nothing }
+    ensures owed { (limits : Limits) (w last : Watched) (before : List Event) (event : Event) → last.label ≡ w.label →
+        last.greatest ≡ limits.epochs → ((l : Label) → last.label ≡ Some l → l.epoch ≤ limits.epochs) →
+        IsOwedBy limits w (before ++ event ∷ []) (owing_of (spent_by event last)) }
 {}
 
 /// Where nothing is owed any more a part ends: with an entry of what was gathered last, if it is anything, and with the turn of the desk
