@@ -280,8 +280,8 @@ module _ (file : List ℕ) (limits : Limits) (era t : ℕ) (before : Stamped Han
 -- A part ends, where nothing is owed any more: with an entry of what was gathered last, if it is anything, and with the turn of the desk that
 -- found no slot, if it made one.
 pub finish : (file : List ℕ) (limits : Limits) (era t : ℕ) (before : Stamped Hand) (log new : Log) (entries : List Entry) (found now : Hand) (last : ℕ)
-    (g : Gathered) (given : ℕ) (tried : Option Try) (o : Option Entry) → SoFar file limits era t before log entries found now last g nothing → IsLastOf t g last o →
-    new ≡ log ++ try_items tried → now.given ≡ None → Stops file limits t given (made_so_far entries g) now tried →
+    (g : Gathered) (given : ℕ) (tried : Option Try) (o : Option Entry) → SoFar file limits era t before log entries found now last g nothing →
+    IsLastOf t g last o → new ≡ log ++ try_items tried → now.given ≡ None → Stops file limits t given (made_so_far entries g) now tried →
     IsFinished file limits era t given before new (with_last entries o) (with_stamp now (stamp_with last o))
 finish file limits era t before log new entries found now last g given tried o s is log_is begun stops =
     finished file limits era t before log entries found now last g s given new tried log_is begun stops o is
