@@ -1,11 +1,12 @@
 -- The links of a node stand side by side.
-use Rattle.std.proofs.Common.{◌≡◌, ℕ, ◌+◌, ◌-◌, ◌<◌, ◌≤◌, List, [], ◌∷◌, ◌++◌, length, get_or, take, drop, sym, ap, ◌∙◌, subst, inl, inr, arith}
-use Rattle.std.specs.List.{All}
+use Rattle.std.proofs.Common.{◌≡◌, ℕ, ◌+◌, ◌-◌, ◌<◌, ◌≤◌, List, [], ◌∷◌, ◌++◌, length, map, get_or, take, drop, sym, ap, ◌∙◌, subst, inl, inr, arith}
+use Rattle.std.specs.List.{All, Contains}
 use Rattle.std.specs.List.Sorted.{IsPartitionPoint}
 use Rattle.std.proofs.lemmas.Bool.{cases_lt}
-use Rattle.std.proofs.lemmas.List.{length-take, length-drop, get_or-take, get_or-drop, get_or_append_left, get_or_push, length_push}
+use Rattle.std.proofs.lemmas.List.{length-take, length-drop, get_or-take, get_or-drop, get_or_append_left, get_or_push, length_push, length-map, get_or-map}
+use Rattle.std.proofs.lemmas.List.Elements.{All-map}
 use Rattle.graph_search.specs.declared.graph.Link.{Link}
-use Rattle.graph_search.specs.Graphs.{IsWithin, AreStarts, AreFrom}
+use Rattle.graph_search.specs.Graphs.{IsWithin, AreStarts, AreFrom, turn}
 use Rattle.graph_search.specs.Searches.{at}
 
 abbrev nothing : Link
@@ -102,3 +103,14 @@ first-all nodes n links starts e f w =
       within = λ m l. all.within m (omega arith);
       parts = λ m l. all.parts m (omega arith);
     }
+
+pub contains-turned : (links : List Link) (l : Link) → Contains links l → Contains (map turn links) (turn l)
+contains-turned links l (k, inside, e) = (k, omega (arith, length-map links turn), get_or-map turn links k l (turn l) inside ∙ ap turn e)
+
+pub contains-turn : (links : List Link) (l : Link) → Contains (map turn links) l → Contains links (turn l)
+contains-turn links l (k, inside, e) =
+    let short : k < length links = omega (arith, length-map links turn) in
+    (k, short, ap turn (sym (get_or-map turn links k (turn l) l short) ∙ e))
+
+pub turned_within : (n : ℕ) (links : List Link) → All (IsWithin n) links → All (IsWithin n) (map turn links)
+turned_within n links w = All-map (IsWithin n) turn links (λ k d l. record { from = (w k d l).to; to = (w k d l).from })

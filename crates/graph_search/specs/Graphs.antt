@@ -26,3 +26,7 @@ pub record AreFrom (links : List Link) (node : ℕ) (own : List Link) : Type 0 w
   pub each : (l : Link) → Contains own l → Contains links l
   pub from : (l : Link) → Contains own l → l.from ≡ node
   pub all : (l : Link) → Contains links l → l.from ≡ node → Contains own l
+
+-- the link the other way round
+abbrev pub turn : Link → Link
+turn l = record { from = l.to; to = l.from }

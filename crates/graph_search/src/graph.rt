@@ -1,8 +1,8 @@
 // Graphs, with the links of a node side by side.
-ghost use Rattle.std.specs.Prelude.{◌<◌, ◌≤◌, ◌+◌, ◌-◌, length, IfOk, vec_len};
+ghost use Rattle.std.specs.Prelude.{◌<◌, ◌≤◌, ◌+◌, ◌-◌, ◌≡◌, length, map, IfOk, vec_len};
 ghost use Rattle.std.specs.List.{All};
 ghost use Rattle.std.specs.List.Sorted.{IsPermutation, IsNonDecreasingBy, IsPartitionPoint};
-ghost use Rattle.graph_search.specs.Graphs.{IsWithin, AreStarts, IsGraph, AreFrom};
+ghost use Rattle.graph_search.specs.Graphs.{IsWithin, AreStarts, IsGraph, AreFrom, turn};
 
 use std::alloc::{AllocError, Global};
 
@@ -56,6 +56,29 @@ impl Graph {
         let starts = starts(alloc, nodes, &links)?;
         Ok(Graph { links, starts })
     }
+
+    /// The graph with each link turned round.
+    pub fn turned(&self, alloc: Global) -> Result<Graph, AllocError>
+        requires graph { IsGraph (vec_len self.now.starts - 1) self.now }
+        ensures same { IfOk result (λ g. IsPermutation (map turn self.now.links.items) g.links.items) }
+        ensures graph { IfOk result (IsGraph (vec_len self.now.starts - 1)) }
+    {
+        let links = turned(alloc, &self.links)?;
+        Graph::new(alloc, self.starts.len() - 1, links)
+    }
+}
+
+/// The links, each turned round.
+fn turned(alloc: Global, links: &[Link]) -> Result<Vec<Link>, AllocError>
+    ensures { IfOk result (λ v. v.items ≡ map turn links.now) }
+{
+    links
+        .iter()
+        .map(|link| Link {
+            from: link.to,
+            to: link.from,
+        })
+        .collect(alloc)
 }
 
 /// The links that begin at the node.
