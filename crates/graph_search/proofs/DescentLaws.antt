@@ -1,8 +1,8 @@
 -- A depth-first walk, one node at a time.
-use Rattle.std.proofs.Common.{◌≡◌, ◌⊎◌, ℕ, zero, suc, ◌+◌, ◌<◌, ◌≤◌, Bool, true, false, not, cond, List, [], ◌∷◌, ◌++◌, length, set, get_or, replicate}
+use Rattle.std.proofs.Common.{◌≡◌, ◌⊎◌, ℕ, suc, ◌+◌, ◌<◌, ◌≤◌, Bool, true, false, not, cond, List, [], ◌∷◌, ◌++◌, length, set, get_or, replicate}
 use Rattle.std.proofs.Common.{refl, sym, ap, ◌∙◌, subst, inl, inr, arith}
 use Rattle.std.specs.List.{Contains}
-use Rattle.std.proofs.lemmas.Bool.{cases_eq, cases_lt, cases_Bool, both_ways}
+use Rattle.std.proofs.lemmas.Bool.{cases_eq, cases_lt, both_ways}
 use Rattle.std.proofs.lemmas.List.{length-set, get_or-set_same, get_or-set_other, get_or_append_left, get_or_push, length_push, length-replicate}
 use Rattle.std.proofs.lemmas.List.{get_or-replicate, get_or_past, get_or_default}
 use Rattle.std.proofs.lemmas.List.Elements.{Contains-push, Contains-append_left, Contains-push_cases, Contains-get_or}
@@ -13,7 +13,7 @@ use Rattle.graph_search.specs.Walks.{Walk, one, more}
 use Rattle.graph_search.specs.Searches.{at}
 use Rattle.graph_search.specs.Knots.{IsReached, AreTied}
 use Rattle.graph_search.specs.Descents.{flag, end_at, unmarked, IsOpen, IsLater, IsDescent, IsFinishing}
-use Rattle.graph_search.proofs.SearchLaws.{contains_at, contains_from}
+use Rattle.graph_search.proofs.SearchLaws.{contains_at}
 use Rattle.graph_search.proofs.ReachLaws.{reached-on, tied-itself, tied-on}
 
 pub flag_inside : (marks : List Bool) (v : ℕ) → flag marks v ≡ true → v < length marks

@@ -1,8 +1,8 @@
 -- Knots, one node and one knot at a time.
-use Rattle.std.proofs.Common.{◌≡◌, ◌⊎◌, ℕ, zero, suc, ◌+◌, ◌<◌, ◌≤◌, Bool, true, false, List, [], ◌∷◌, ◌++◌, length, set, map, replicate, get_or}
+use Rattle.std.proofs.Common.{◌≡◌, ℕ, suc, ◌<◌, ◌≤◌, Bool, true, false, List, [], ◌∷◌, ◌++◌, length, set, map, replicate}
 use Rattle.std.proofs.Common.{refl, sym, ap, ◌∙◌, subst, inl, inr, arith}
 use Rattle.std.specs.List.{Contains}
-use Rattle.std.proofs.lemmas.Bool.{cases_eq, cases_lt, cases_Bool, both_ways}
+use Rattle.std.proofs.lemmas.Bool.{cases_eq, cases_Bool, both_ways}
 use Rattle.std.proofs.lemmas.List.{length-set, get_or-set_same, get_or-set_other, length_push, length-replicate}
 use Rattle.std.proofs.lemmas.List.Elements.{Contains-push, Contains-append_left, Contains-push_cases, Contains-get_or}
 use Rattle.graph_search.specs.declared.graph.Link.{Link}
@@ -10,11 +10,11 @@ use Rattle.graph_search.specs.Graphs.{AreFrom, turn}
 use Rattle.graph_search.specs.Walks.{Walk, one, more}
 use Rattle.graph_search.specs.Searches.{at}
 use Rattle.graph_search.specs.Knots.{IsReached, AreTied, AreKnots}
-use Rattle.graph_search.specs.Descents.{flag, unmarked, IsLater, IsFinishing}
+use Rattle.graph_search.specs.Descents.{flag, IsFinishing}
 use Rattle.graph_search.specs.Gatherings.{Places, Gathers, KnowsKnots}
 use Rattle.graph_search.proofs.GraphLaws.{contains-turned, contains-turn}
 use Rattle.graph_search.proofs.SearchLaws.{contains_at}
-use Rattle.graph_search.proofs.ReachLaws.{reached-on, reached-link, reached-among, tied-itself, tied-turned, tied-on}
+use Rattle.graph_search.proofs.ReachLaws.{reached-on, reached-link, reached-among, tied-turned, tied-on}
 use Rattle.graph_search.proofs.DescentLaws.{flag_inside, no_flag, mark-kept, mark-only, mark-one}
 
 pub places-none : (root : ℕ) (placed : List Bool) (knots ahead : List ℕ) → Places [] root placed knots ahead placed knots ahead

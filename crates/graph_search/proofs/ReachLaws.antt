@@ -1,5 +1,5 @@
 -- Nodes that are reached from one another.
-use Rattle.std.proofs.Common.{◌≡◌, ℕ, suc, List, length, refl, sym, subst, inl, inr}
+use Rattle.std.proofs.Common.{◌≡◌, ℕ, suc, List, refl, sym, subst, inl, inr}
 use Rattle.std.specs.List.{Contains}
 use Rattle.graph_search.specs.declared.graph.Link.{Link}
 use Rattle.graph_search.specs.Walks.{Walk, one, more}

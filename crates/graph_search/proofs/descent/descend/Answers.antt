@@ -1,6 +1,5 @@
-use Rattle.std.proofs.Common.{◌≡◌, ℕ, ◌<◌, [], List, Bool, length, true, arith, sym, subst}
+use Rattle.std.proofs.Common.{◌<◌, [], length, true, arith}
 use Rattle.std.proofs.lemmas.List.{get_or-set_same}
-use Rattle.graph_search.specs.Descents.{flag, IsDescent}
 use Rattle.graph_search.proofs.DescentLaws.{mark-kept, descent-on}
 use Rattle.graph_search.proofs.descent.descend.Goals as goal
 

@@ -1,5 +1,4 @@
-use Rattle.std.proofs.Common.{◌≡◌, ℕ, ◌+◌, ◌-◌, ◌<◌, [], List, Bool, length, replicate, true, false, arith, sym, subst}
-use Rattle.graph_search.specs.Descents.{flag, IsDescent}
+use Rattle.std.proofs.Common.{◌-◌, arith}
 use Rattle.graph_search.proofs.GraphLaws.{starts_rise}
 use Rattle.graph_search.proofs.DescentLaws.{descent-begin, descent-end}
 use Rattle.graph_search.proofs.descent.finished.Goals as goal

@@ -1,4 +1,4 @@
-use Rattle.std.proofs.Common.{◌≡◌, ℕ, ◌<◌, true, [], length}
+use Rattle.std.proofs.Common.{◌≡◌, ℕ, ◌<◌, true, []}
 use Rattle.graph_search.specs.Descents.{flag, IsDescent}
 use Rattle.graph_search.proofs.descent.finished.Given as goal
 

@@ -1,13 +1,12 @@
-use Rattle.std.proofs.Common.{◌≡◌, ℕ, ◌+◌, ◌-◌, ◌<◌, ◌≤◌, ◌++◌, ◌∷◌, [], List, Bool, length, set, get_or, true, false, refl, sym, ap, ◌∙◌, subst, arith}
-use Rattle.std.specs.List.{All}
-use Rattle.std.proofs.lemmas.List.{get_or_read, get_or-set_same, length_push, length-set}
+use Rattle.std.proofs.Common.{◌≡◌, ℕ, ◌+◌, ◌-◌, ◌<◌, ◌≤◌, ◌++◌, ◌∷◌, [], List, Bool, length, set, get_or, true, false, sym, ap, ◌∙◌, subst, arith}
+use Rattle.std.proofs.lemmas.List.{get_or_read, get_or-set_same, length_push}
 use Rattle.std.proofs.lemmas.List.Elements.{All-contains}
 use Rattle.graph_search.specs.declared.graph.Link.{Link}
 use Rattle.graph_search.specs.declared.graph.Graph.{Graph}
 use Rattle.graph_search.specs.Graphs.{IsGraph, IsWithin}
 use Rattle.graph_search.specs.Searches.{at}
 use Rattle.graph_search.specs.Knots.{IsReached}
-use Rattle.graph_search.specs.Descents.{flag, end_at, unmarked, IsDescent}
+use Rattle.graph_search.specs.Descents.{flag, end_at, IsDescent}
 use Rattle.graph_search.proofs.ReachLaws.{reached-link}
 use Rattle.graph_search.proofs.DescentLaws.{last_inside, place_link, mark-one, descent-pass, descent-on, descent-back, leads-on}
 use Rattle.graph_search.proofs.descent.step.Goals as goal

@@ -1,9 +1,6 @@
-use Rattle.std.proofs.Common.{◌≡◌, ℕ, ◌+◌, ◌-◌, ◌<◌, [], ◌∷◌, ◌++◌, List, length, map, get_or, arith, sym, subst}
-use Rattle.std.specs.List.{All}
+use Rattle.std.proofs.Common.{◌-◌, map, get_or, arith}
 use Rattle.std.proofs.lemmas.List.Elements.{All-contains, Contains-get_or}
-use Rattle.graph_search.specs.declared.graph.Link.{Link}
 use Rattle.graph_search.specs.Graphs.{IsWithin, turn}
-use Rattle.graph_search.specs.Gatherings.{Gathers}
 use Rattle.graph_search.proofs.KnotLaws.{gathers-more, last_gathered}
 use Rattle.graph_search.proofs.knot.gather.Goals as goal
 

@@ -1,4 +1,4 @@
-use Rattle.std.proofs.Common.{◌≡◌, ◌+◌, ◌<◌, List, ◌∷◌, [], ◌++◌, length, take, get_or, arith, sym, ◌∙◌, subst, false, true}
+use Rattle.std.proofs.Common.{◌≡◌, ◌+◌, ◌<◌, List, ◌∷◌, [], ◌++◌, length, take, get_or, arith, sym, ◌∙◌, subst, false}
 use Rattle.std.proofs.lemmas.List.{take_more, get_or_read}
 use Rattle.graph_search.specs.declared.graph.Link.{Link}
 use Rattle.graph_search.specs.Descents.{flag}
