@@ -3,3 +3,4 @@ pub mod SearchLaws
 pub mod ReachLaws
 pub mod DescentLaws
 pub mod KnotLaws
+pub mod RowLaws

@@ -11,7 +11,7 @@ use crate::graph::links_from;
 use crate::{Graph, Link};
 use std::alloc::{AllocError, Global};
 
-/// Goes on along links of one node: nodes that aren't placed are from now on, with the number of the root, and ahead.
+/// Goes on along links of one node: nodes that aren't placed get the number of the root, and their links are ahead.
 fn place(
     links: &[Link],
     root: usize,
@@ -34,7 +34,7 @@ fn place(
     Ok(())
 }
 
-/// Places each node that isn't placed and from which the root is reached along such nodes, by the links turned round.
+/// Places each node that isn't placed and from which the root is reached along such nodes. The graph's links are turned round.
 fn gather(
     alloc: Global,
     back: &Graph,
@@ -60,8 +60,7 @@ fn gather(
     Ok(())
 }
 
-/// For each node the number of its knot: two nodes have the same one exactly where each is reached from the other. It takes
-/// time and memory in proportion to nodes and links.
+/// For each node the number of its knot: two nodes have the same one exactly where each is reached from the other.
 pub fn knots(alloc: Global, graph: &Graph) -> Result<Vec<usize>, AllocError>
     requires graph { IsGraph (vec_len graph.now.starts - 1) graph.now }
     ensures knots { IfOk result (λ v. AreKnots graph.now.links.items v.items) }
