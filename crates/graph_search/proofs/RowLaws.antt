@@ -4,7 +4,8 @@ use Rattle.std.proofs.Common.{Vec, Global}
 use Rattle.std.specs.List.{All}
 use Rattle.std.specs.List.Sorted.{IsPermutation}
 use Rattle.std.proofs.lemmas.Bool.{cases_eq, cases_lt}
-use Rattle.std.proofs.lemmas.List.{length-set, get_or-set_same, get_or-set_other, get_or_append_left, get_or-append_right, get_or_push, length_push, length-append, append_assoc, append-nil, take_more}
+use Rattle.std.proofs.lemmas.List.{length-set, get_or-set_same, get_or-set_other, get_or_append_left, get_or-append_right, get_or_push, length_push}
+use Rattle.std.proofs.lemmas.List.{length-append, append_assoc, append-nil, take_more}
 use Rattle.std.proofs.lemmas.Grind.{flat_map-append}
 use Rattle.std.proofs.lemmas.List.Elements.{All-append, All-push, All-weaker}
 use Rattle.std.proofs.lemmas.List.Sorted.{IsPermutation-refl, IsPermutation-append_right, IsPermutation-middle, IsPermutation-push_more}
@@ -19,7 +20,8 @@ row-more : (rows : List (Vec Link Global)) (n : ℕ) (old new : Vec Link Global)
 row-more [] n old new l inside is e = absurd (omega arith)
 row-more (r ∷ rows) zero old new l inside is e =
     let first : new.items ++ row_links rows ≡ r.items ++ l ∷ row_links rows =
-    ap (λ (xs : List Link). xs ++ row_links rows) (e ∙ ap (λ (v : Vec Link Global). v.items ++ l ∷ []) (sym is)) ∙ append_assoc r.items (l ∷ []) (row_links rows) in
+    ap (λ (xs : List Link). xs ++ row_links rows) (e ∙ ap (λ (v : Vec Link Global). v.items ++ l ∷ []) (sym is)) ∙
+    append_assoc r.items (l ∷ []) (row_links rows) in
     subst (λ (xs : List Link). IsPermutation (l ∷ (r.items ++ row_links rows)) xs) (sym first)
     (IsPermutation-sym (r.items ++ l ∷ row_links rows) (l ∷ (r.items ++ row_links rows)) (IsPermutation-middle r.items l (row_links rows)))
 row-more (r ∷ rows) (suc n) old new l inside is e =
@@ -36,7 +38,8 @@ rows-blank n rows r rs e = record {
       (subst (IsPermutation []) (sym (append-nil (row_links rows))) rs.same));
   own = λ k d l. elim (cases_lt k n) [
     | inl b ↦
-        subst (λ (v : Vec Link Global). All (λ (x : Link). x.from ≡ k) v.items) (sym (get_or_append_left rows (r ∷ []) d k (omega (arith, rs.size)))) (rs.own k d b)
+        subst (λ (v : Vec Link Global). All (λ (x : Link). x.from ≡ k) v.items) (sym (get_or_append_left rows (r ∷ []) d k (omega (arith, rs.size))))
+        (rs.own k d b)
     | inr b ↦
         subst (λ (v : Vec Link Global). All (λ (x : Link). x.from ≡ k) v.items) (sym (get_or_push rows r d k (omega (arith, rs.size))))
         (subst (λ (xs : List Link). All (λ (x : Link). x.from ≡ k) xs) (sym e) (λ i x h. absurd (omega arith)))
@@ -50,12 +53,14 @@ pub rows-more : (nodes : ℕ) (links : List Link) (rows : List (Vec Link Global)
     l.from < nodes → get_or rows l.from old ≡ old → new.items ≡ old.items ++ l ∷ [] → AreRows nodes (links ++ l ∷ []) (set rows l.from new)
 rows-more nodes links rows l old new r inside is e = record {
   size = length-set rows l.from new ∙ r.size;
-  same = IsPermutation-push_more links (row_links rows) (row_links (set rows l.from new)) l r.same (row-more rows l.from old new l (omega (arith, r.size)) is e);
+  same = IsPermutation-push_more links (row_links rows) (row_links (set rows l.from new)) l r.same
+      (row-more rows l.from old new l (omega (arith, r.size)) is e);
   own = λ n d low. elim (cases_eq n l.from) [
     | inl same ↦
         let here : get_or (set rows l.from new) n d ≡ new =
         ap (λ (x : ℕ). get_or (set rows l.from new) x d) same ∙ get_or-set_same rows l.from new d (omega (arith, r.size)) in
-        let olds : All (λ (k : Link). k.from ≡ l.from) old.items = subst (λ (v : Vec Link Global). All (λ (k : Link). k.from ≡ l.from) v.items) is (r.own l.from old inside) in
+        let olds : All (λ (k : Link). k.from ≡ l.from) old.items =
+        subst (λ (v : Vec Link Global). All (λ (k : Link). k.from ≡ l.from) v.items) is (r.own l.from old inside) in
         subst (λ (v : Vec Link Global). All (λ (k : Link). k.from ≡ n) v.items) (sym here)
         (subst (λ (xs : List Link). All (λ (k : Link). k.from ≡ n) xs) (sym e)
         (subst (λ (x : ℕ). All (λ (k : Link). k.from ≡ x) (old.items ++ l ∷ [])) (sym same)
@@ -87,7 +92,8 @@ pub first-more : (n : ℕ) (links row : List Link) (starts : List ℕ) → AreFi
     AreFirst (n + 1) (links ++ row) (starts ++ length links ∷ [])
 first-more n links row starts f own =
     let long = length-append links row in
-    let old : (m : ℕ) → m < n → at (starts ++ length links ∷ []) m ≡ at starts m = λ m l. get_or_append_left starts (length links ∷ []) 0 m (omega (arith, f.size)) in
+    let old : (m : ℕ) → m < n → at (starts ++ length links ∷ []) m ≡ at starts m =
+    λ m l. get_or_append_left starts (length links ∷ []) 0 m (omega (arith, f.size)) in
     let new : (m : ℕ) → n ≡ m → at (starts ++ length links ∷ []) m ≡ length links = λ m e. get_or_push starts (length links) 0 m (omega (arith, f.size)) in
     let front : (k : ℕ) (d : Link) → k < length links → (get_or (links ++ row) k d).from ≡ (get_or links k d).from =
     λ k d l. ap (λ (x : Link). x.from) (get_or_append_left links row d k l) in
@@ -112,14 +118,16 @@ first-more n links row starts f own =
         ]
         | inr past ↦ omega (arith, rear k d past high)
       ];
-      all = All-append (λ (l : Link). l.from < n + 1) links row (All-weaker (λ (l : Link). l.from < n) (λ (l : Link). l.from < n + 1) (λ l h. omega arith) links f.all)
+      all = All-append (λ (l : Link). l.from < n + 1) links row
+          (All-weaker (λ (l : Link). l.from < n) (λ (l : Link). l.from < n + 1) (λ l h. omega arith) links f.all)
           (All-weaker (λ (l : Link). l.from ≡ n) (λ (l : Link). l.from < n + 1) (λ l h. omega arith) row own);
     }
 
 -- all rows
 pub first-all : (nodes n : ℕ) (links : List Link) (starts : List ℕ) → n ≡ nodes → AreFirst n links starts → AreStarts nodes links (starts ++ length links ∷ [])
 first-all nodes n links starts e f =
-    let old : (m : ℕ) → m < n → at (starts ++ length links ∷ []) m ≡ at starts m = λ m l. get_or_append_left starts (length links ∷ []) 0 m (omega (arith, f.size)) in
+    let old : (m : ℕ) → m < n → at (starts ++ length links ∷ []) m ≡ at starts m =
+    λ m l. get_or_append_left starts (length links ∷ []) 0 m (omega (arith, f.size)) in
     let new : (m : ℕ) → n ≡ m → at (starts ++ length links ∷ []) m ≡ length links = λ m x. get_or_push starts (length links) 0 m (omega (arith, f.size)) in
     record {
       size = omega (arith, length_push starts (length links), f.size);

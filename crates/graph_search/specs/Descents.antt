@@ -22,7 +22,7 @@ pub record IsOpen (links : List Link) (way : List ℕ) (u : ℕ) : Type 0 where
   pub inside : place < length way
   pub tied : AreTied links (at way place) u
 
--- v is left, and no place of v is behind that of some node that is tied with u
+-- v is left, and some node that is tied with u is left no earlier: no place of v is behind its
 pub record IsLater (links : List Link) (done : List ℕ) (u v : ℕ) : Type 0 where
   pub there : Contains done v
   pub place : ℕ
@@ -30,7 +30,8 @@ pub record IsLater (links : List Link) (done : List ℕ) (u v : ℕ) : Type 0 wh
   pub tied : AreTied links (at done place) u
   pub last : (k : ℕ) → k < length done → at done k ≡ v → k ≤ place
 
--- the walk went down the way, and has left the nodes of `done` in this order; of each node the links before `next` are passed
+-- the walk went down the way, and has left the nodes of `done` in this order; of each node the links before `next` are
+-- passed: they lead to nodes that are seen
 pub record IsDescent (links : List Link) (starts : List ℕ) (seen : List Bool) (next way done : List ℕ) : Type 0 where
   pub size : length seen + 1 ≡ length starts
   pub places : length next ≡ length starts
@@ -45,7 +46,7 @@ pub record IsDescent (links : List Link) (starts : List ℕ) (seen : List Bool) 
   pub other : (v : ℕ) → Contains way v → Contains done v → ⊥
   pub order : (u v : ℕ) → Contains done u → IsReached links u v → IsOpen links way u ⊎ IsLater links done u v
 
--- all nodes in the order in which a depth-first walk leaves them: of two knots of which one leads to the other, it comes last
+-- all nodes, in an order in which some node of u's knot stands at v or behind it, where u leads to v
 pub record IsFinishing (links : List Link) (nodes : ℕ) (done : List ℕ) : Type 0 where
   pub within : (v : ℕ) → Contains done v → v < nodes
   pub all : (v : ℕ) → v < nodes → Contains done v

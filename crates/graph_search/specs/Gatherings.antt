@@ -7,7 +7,8 @@ use Rattle.graph_search.specs.Knots.{IsReached, AreTied}
 use Rattle.graph_search.specs.Descents.{flag, unmarked}
 
 -- the nodes to which the links lead are placed: those that were not have the number, and stand behind `ahead`
-pub record Places (own : List Link) (root : ℕ) (placed : List Bool) (knots ahead : List ℕ) (placed' : List Bool) (knots' ahead' : List ℕ) : Type 0 where
+pub record Places (own : List Link) (root : ℕ) (placed : List Bool) (knots ahead : List ℕ) (placed' : List Bool)
+    (knots' ahead' : List ℕ) : Type 0 where
   pub size : length placed' ≡ length placed
   pub long : length knots' ≡ length knots
   pub count : unmarked placed' + length ahead' ≡ unmarked placed + length ahead
@@ -21,7 +22,8 @@ pub record Places (own : List Link) (root : ℕ) (placed : List Bool) (knots ahe
   pub only : (v : ℕ) → Contains ahead' v → Contains ahead v ⊎ ((flag placed v ≡ false) × (flag placed' v ≡ true))
 
 -- nodes that weren't placed, and from which the root is reached, are: those of `ahead` may have links from some that aren't
-pub record Gathers (links : List Link) (root : ℕ) (placed : List Bool) (knots : List ℕ) (placed' : List Bool) (knots' ahead : List ℕ) : Type 0 where
+pub record Gathers (links : List Link) (root : ℕ) (placed : List Bool) (knots : List ℕ) (placed' : List Bool)
+    (knots' ahead : List ℕ) : Type 0 where
   pub size : length placed' ≡ length placed
   pub long : length knots' ≡ length knots
   pub kept : (v : ℕ) → flag placed v ≡ true → flag placed' v ≡ true
@@ -29,7 +31,8 @@ pub record Gathers (links : List Link) (root : ℕ) (placed : List Bool) (knots 
   pub numbered : (v : ℕ) → flag placed v ≡ false → flag placed' v ≡ true → at knots' v ≡ root
   pub leads : (v : ℕ) → flag placed v ≡ false → flag placed' v ≡ true → IsReached links v root
   pub begun : flag placed' root ≡ true
-  pub closed : (l : Link) → Contains links l → flag placed l.to ≡ false → flag placed' l.to ≡ true → Contains ahead l.to ⊎ (flag placed' l.from ≡ true)
+  pub closed : (l : Link) → Contains links l → flag placed l.to ≡ false → flag placed' l.to ≡ true →
+      Contains ahead l.to ⊎ (flag placed' l.from ≡ true)
   pub new : (v : ℕ) → Contains ahead v → (flag placed v ≡ false) × (flag placed' v ≡ true)
 
 -- the nodes from place n of `done` on have the numbers of their knots, and with a node each that is tied with it

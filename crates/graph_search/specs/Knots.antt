@@ -16,5 +16,7 @@ pub record AreTied (links : List Link) (a b : ℕ) : Type 0 where
 -- for each node the number of its knot: two nodes have the same one exactly where each is reached from the other
 pub record AreKnots (links : List Link) (knots : List ℕ) : Type 0 where
   pub within : (v : ℕ) → v < length knots → slice_index_or knots v 0 < length knots
-  pub tied : (a b : ℕ) → a < length knots → b < length knots → slice_index_or knots a 0 ≡ slice_index_or knots b 0 → AreTied links a b
-  pub same : (a b : ℕ) → a < length knots → b < length knots → AreTied links a b → slice_index_or knots a 0 ≡ slice_index_or knots b 0
+  pub tied : (a b : ℕ) → a < length knots → b < length knots →
+      slice_index_or knots a 0 ≡ slice_index_or knots b 0 → AreTied links a b
+  pub same : (a b : ℕ) → a < length knots → b < length knots → AreTied links a b →
+      slice_index_or knots a 0 ≡ slice_index_or knots b 0

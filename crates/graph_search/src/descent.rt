@@ -68,10 +68,12 @@ fn descend(
     done: &mut Vec<usize>,
 ) -> Result<(), AllocError>
     requires graph { IsGraph (vec_len graph.now.starts - 1) graph.now }
-    requires descent { IsDescent graph.now.links.items graph.now.starts.items seen.old.items next.old.items [] done.old.items }
+    requires descent { IsDescent graph.now.links.items graph.now.starts.items seen.old.items next.old.items []
+        done.old.items }
     requires root { root < vec_len seen.old }
     requires unseen { flag seen.old.items root ≡ false }
-    ensures descent { OnOk result (IsDescent graph.now.links.items graph.now.starts.items seen.new.items next.new.items [] done.new.items) }
+    ensures descent { OnOk result (IsDescent graph.now.links.items graph.now.starts.items seen.new.items next.new.items []
+        done.new.items) }
     ensures kept { OnOk result ((v : ℕ) → flag seen.old.items v ≡ true → flag seen.new.items v ≡ true) }
     ensures root { OnOk result (flag seen.new.items root ≡ true) }
 {

@@ -34,7 +34,8 @@ fn place(
     Ok(())
 }
 
-/// Places each node that isn't placed and from which the root is reached along such nodes. The graph's links are turned round.
+/// Places each node that isn't placed and from which the root is reached along such nodes. The graph's links are turned
+/// round.
 fn gather(
     alloc: Global,
     back: &Graph,

@@ -62,11 +62,13 @@ pub record AreTied (es : List Edge) (a b : ℕ) : Type 0 where
   pub forth : Reaches es a b
   pub back : Reaches es b a
 
--- each node has the number of its knot
+-- each node has the number of its knot: two have the same one exactly where each reaches the other
 pub record AreNumbered (es : List Edge) (nodes knots : List ℕ) : Type 0 where
   pub size : length knots ≡ length nodes
-  pub tied : (i j : ℕ) → i < length nodes → j < length nodes → at knots i ≡ at knots j → (i ≡ j → ⊥) → AreTied es (at nodes i) (at nodes j)
-  pub same : (i j : ℕ) → i < length nodes → j < length nodes → AreTied es (at nodes i) (at nodes j) → at knots i ≡ at knots j
+  pub tied : (i j : ℕ) → i < length nodes → j < length nodes → at knots i ≡ at knots j → (i ≡ j → ⊥) →
+      AreTied es (at nodes i) (at nodes j)
+  pub same : (i j : ℕ) → i < length nodes → j < length nodes →
+      AreTied es (at nodes i) (at nodes j) → at knots i ≡ at knots j
 
 -- for each number of a knot whether a link stays within it
 pub record AreRinged (links : List Link) (knots : List ℕ) (ringed : List Bool) : Type 0 where

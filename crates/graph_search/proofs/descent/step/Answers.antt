@@ -48,7 +48,8 @@ passed g seen next way done node first end place a d up to pass =
     (λ k low high. pass k (omega (arith, a.from)) high)
 
 back : (g : Graph) (seen : List Bool) (next way done : List ℕ) (node first end place : ℕ) → IsAt g seen next way done node first end place →
-    IsGraph (g.starts.len - 1) g → place ≡ end → node < length next → IsDescent g.links.items g.starts.items seen (set next node place) (way ++ node ∷ []) done →
+    IsGraph (g.starts.len - 1) g → place ≡ end → node < length next →
+    IsDescent g.links.items g.starts.items seen (set next node place) (way ++ node ∷ []) done →
     IsDescent g.links.items g.starts.items seen (set next node place) way (done ++ node ∷ [])
 back g seen next way done node first end place a graph same inner d =
     descent-back (g.starts.len - 1) g.links.items g.starts.items seen (set next node place) way done node graph.starts d
@@ -67,7 +68,8 @@ target g seen next way done node first end place a graph up less d =
 on : (g : Graph) (seen : List Bool) (next way done : List ℕ) (node first end place : ℕ) → IsAt g seen next way done node first end place →
     IsGraph (g.starts.len - 1) g → first ≤ place → place < end → flag seen (end_at g.links.items place) ≡ false →
     IsDescent g.links.items g.starts.items seen (set next node place) (way ++ node ∷ []) done →
-    IsDescent g.links.items g.starts.items (set seen (end_at g.links.items place) true) (set next node place) ((way ++ node ∷ []) ++ end_at g.links.items place ∷ []) done
+    IsDescent g.links.items g.starts.items (set seen (end_at g.links.items place) true) (set next node place)
+    ((way ++ node ∷ []) ++ end_at g.links.items place ∷ []) done
 on g seen next way done node first end place a graph up less free d =
     let links = g.links.items in
     let w = end_at links place in
@@ -80,21 +82,24 @@ pub overflow_add-node : goal.overflow_add-node
 overflow_add-node c =
     let g = c.args.graph.now in
     let d = c.requires.descent in
-    let inside = last_inside g.links.items g.starts.items c.args.seen.now.items c.args.next.now.items c.args.way.now.items c.args.done.now.items c.args.node d in
+    let inside = last_inside g.links.items g.starts.items c.args.seen.now.items c.args.next.now.items c.args.way.now.items c.args.done.now.items
+    c.args.node d in
     omega (arith, inside, d.size, g.starts.ok.0, g.starts.small)
 
 pub index-end-requires : goal.index-end-requires
 index-end-requires c =
     let g = c.args.graph.now in
     let d = c.requires.descent in
-    let inside = last_inside g.links.items g.starts.items c.args.seen.now.items c.args.next.now.items c.args.way.now.items c.args.done.now.items c.args.node d in
+    let inside = last_inside g.links.items g.starts.items c.args.seen.now.items c.args.next.now.items c.args.way.now.items c.args.done.now.items
+    c.args.node d in
     omega (arith, inside, d.size, g.starts.ok.0)
 
 pub index-requires : goal.index-requires
 index-requires c =
     let g = c.args.graph.now in
     let d = c.requires.descent in
-    let inside = last_inside g.links.items g.starts.items c.args.seen.now.items c.args.next.now.items c.args.way.now.items c.args.done.now.items c.args.node d in
+    let inside = last_inside g.links.items g.starts.items c.args.seen.now.items c.args.next.now.items c.args.way.now.items c.args.done.now.items
+    c.args.node d in
     omega (arith, inside, d.size, d.places, c.args.next.now.ok.0)
 
 pub first_unseen-place-requires-clause-order : goal.first_unseen-place-requires-clause-order
@@ -112,7 +117,8 @@ pub index_mut-requires : goal.index_mut-requires
 index_mut-requires c =
     let g = c.args.graph.now in
     let d = c.requires.descent in
-    let inside = last_inside g.links.items g.starts.items c.args.seen.now.items c.args.next.now.items c.args.way.now.items c.args.done.now.items c.args.node d in
+    let inside = last_inside g.links.items g.starts.items c.args.seen.now.items c.args.next.now.items c.args.way.now.items c.args.done.now.items
+    c.args.node d in
     omega (arith, inside, d.size, d.places, c.args.next.now.ok.0)
 
 pub returns-then-place-end-clause-descent : goal.returns-then-place-end-clause-descent

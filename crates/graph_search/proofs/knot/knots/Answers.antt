@@ -16,7 +16,8 @@ use Rattle.graph_search.proofs.knot.knots.Goals as goal
 gathered : (links others : List Link) (root : ℕ) (placed : List Bool) (knots : List ℕ) (placed' : List Bool) (knots' : List ℕ) →
     IsPermutation (map turn links) others → Gathers (map turn others) root placed knots placed' knots' [] → Gathers links root placed knots placed' knots' []
 gathered links others root placed knots placed' knots' p g = gathers-among links (map turn others) root placed knots placed' knots'
-    (λ l c. contains-turn links (turn l) (Contains-permutation others (map turn links) (turn l) (IsPermutation-sym (map turn links) others p) (contains-turn others l c)))
+    (λ l c. contains-turn links (turn l)
+    (Contains-permutation others (map turn links) (turn l) (IsPermutation-sym (map turn links) others p) (contains-turn others l c)))
     (λ l c. contains-turned others (turn l) (Contains-permutation (map turn links) others (turn l) p (contains-turned links l c))) g
 
 node_inside : (links : List Link) (nodes : ℕ) (done : List ℕ) (n node : ℕ) → IsFinishing links nodes done → n < length done → node ≡ at done n → node < nodes
@@ -59,7 +60,8 @@ loop-index-preserved-in-Continue-branch-5 c =
     let was : c.index.result.now ≡ flag placed node = get_or_read placed node c.index.result.now (omega (arith, k.size)) c.index.ensures false in
     let free : flag placed (at done n) ≡ false = ap (flag placed) (sym e) ∙ (sym was ∙ c.if-not-index.true) in
     let g : Gathers links node placed knots c.gather.new.placed.items c.gather.new.knots.items [] =
-    gathered links c.in_ok-back.back.links.items node placed knots c.gather.new.placed.items c.gather.new.knots.items c.in_ok-back.ensures.same c.in_ok-gather.ensures in
+    gathered links c.in_ok-back.back.links.items node placed knots c.gather.new.placed.items c.gather.new.knots.items c.in_ok-back.ensures.same
+    c.in_ok-gather.ensures in
     knows-more links nodes done n placed knots c.gather.new.placed.items c.gather.new.knots.items f inside k free
     (subst (λ (m : ℕ). Gathers links m placed knots c.gather.new.placed.items c.gather.new.knots.items []) e g)
 

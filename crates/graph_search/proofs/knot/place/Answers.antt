@@ -30,6 +30,7 @@ loop-link-preserved c =
           known (sym has ∙ w.if-not-index.true) long same)
       | else-not-index w ↦
           rw (w.placed-is, w.knots-is, w.ahead-is)
-          (places-there (take k links) link c.args.root c.args.placed.now.items c.args.knots.now.items c.args.ahead.now.items placed knots c.loop-link.ahead.items
+          (places-there (take k links) link c.args.root c.args.placed.now.items c.args.knots.now.items c.args.ahead.now.items placed knots
+          c.loop-link.ahead.items
           known (sym has ∙ w.if-not-index.false))
     ])

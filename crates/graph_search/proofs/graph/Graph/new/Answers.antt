@@ -18,14 +18,16 @@ loop-row-preserved c =
     let inside : n < length rows = omega arith in
     let rs = rw (sym c.deref-row-items.ensures.value) at c.in_ok-rows.ensures.own in
     let small : n < c.args.nodes = omega (arith, c.in_ok-rows.ensures.size, ap (length {A = Vec Link Global}) c.deref-row-items.ensures.value) in
-    let own : All (λ (l : Link). l.from ≡ n) row.items = subst (λ (v : Vec Link Global). All (λ (l : Link). l.from ≡ n) v.items) (sym c.row-item.is) (rs n row small) in
+    let own : All (λ (l : Link). l.from ≡ n) row.items =
+    subst (λ (v : Vec Link Global). All (λ (l : Link). l.from ≡ n) v.items) (sym c.row-item.is) (rs n row small) in
     let here : c.extend_from_slice.new.self.items ≡ links ++ row.items =
     c.in_ok-extend_from_slice.ensures.items ∙ ap (λ (xs : List Link). links ++ xs) c.deref-in-loop-row.ensures.value in
     let count : c.len.result ≡ length links = omega (arith, c.len.ensures, c.loop-row.links.ok.0) in
     let starting : c.push.new.self.items ≡ starts ++ length links ∷ [] = c.in_ok-push.ensures.items ∙ ap (λ (m : ℕ). starts ++ m ∷ []) count in
     record {
       first = subst (λ (xs : List Link). AreFirst (n + 1) xs c.push.new.self.items) (sym here)
-          (subst (λ (ss : List ℕ). AreFirst (n + 1) (links ++ row.items) ss) (sym starting) (first-more n links row.items starts c.loop-row.invariant.first own));
+          (subst (λ (ss : List ℕ). AreFirst (n + 1) (links ++ row.items) ss) (sym starting)
+          (first-more n links row.items starts c.loop-row.invariant.first own));
       is = here ∙ (ap (λ (xs : List Link). xs ++ row.items) c.loop-row.invariant.is ∙ sym (row_links-more rows n row inside c.row-item.is));
     }
 
