@@ -1,0 +1,2 @@
+//! What workers tell of races.
+#![tactic(auto)]
