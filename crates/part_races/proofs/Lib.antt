@@ -1,2 +1,4 @@
 pub mod Spans
 pub mod Deeds
+pub mod Lines
+pub mod Rounds
