@@ -2,3 +2,5 @@ pub mod Spans
 pub mod Deeds
 pub mod Lines
 pub mod Rounds
+pub mod Lists
+pub mod Parts
