@@ -4,3 +4,5 @@ pub mod Lines
 pub mod Rounds
 pub mod Lists
 pub mod Parts
+pub mod Collecting
+pub mod Moved

@@ -163,11 +163,12 @@ pub record HandsAwait (file : List ℕ) (limits : Limits) (round era base : ℕ)
   pub are : AreHandRounds file limits round era base (held_at file limits m) rounds
   pub entries : listed_entries rounds ≡ map (λ (r : PartRound). r.entries) rs
   pub await : AllListed file limits era rounds wss
+  pub ends : map (λ (r : HandRound). r.ends) rounds ≡ map (λ (r : PartRound). r.ends) rs
 
 module _ (file : List ℕ) (limits : Limits) (lay : Layout) where
   pub hands_await : (rs : List PartRound) (wss : List (List Awaited)) (round era base : ℕ) (m : State (Stamped Hand) Object) →
       ArePartRounds file limits lay round era base m rs → AllAwait file limits era rs wss → HandsAwait file limits round era base m rs wss
-  hands_await [] [] round era base m h a = record { rounds = []; are = tt; entries = refl; await = tt }
+  hands_await [] [] round era base m h a = record { rounds = []; are = tt; entries = refl; await = tt; ends = refl }
   hands_await [] (ws ∷ wss) round era base m h a = absurd a
   hands_await (r ∷ rs) [] round era base m h a = absurd a
   hands_await (r ∷ rs) (ws ∷ wss) round era base m h a =
@@ -187,6 +188,7 @@ module _ (file : List ℕ) (limits : Limits) (lay : Layout) where
               (hands_after era (held_at file limits m) one.it) others.rounds) (sym one.ends_is) rest,
         );
         entries = ap₂ (λ (es : List Entry) (ess : List (List Entry)). es ∷ ess) one.entries others.entries;
+        ends = ap₂ (λ (b : Bool) (bs : List Bool). b ∷ bs) one.ends_is others.ends;
         await = (
           listed_await file limits era lay round m r h.1 ws one a.0,
           subst (λ (b : Bool). AllListed file limits (cond b (era + 1) era) others.rounds wss) (sym one.ends_is) others.await,

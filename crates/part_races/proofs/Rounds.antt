@@ -1,6 +1,6 @@
 -- The watched machine follows rounds of deeds, and what each of its rounds tells is what the round's deeds await.
 use Rattle.std.proofs.Common.{◌≡◌, ◌≤◌, ℕ, ◌+◌, max, Bool, cond, List, [], ◌∷◌, ◌++◌, refl, sym, ap, ap₂, subst, ◌∙◌}
-use Rattle.std.specs.Prelude.{Ok}
+use Rattle.std.specs.Prelude.{map, Ok}
 use Rattle.std.specs.List.{AllZip}
 use Rattle.run_record.specs.declared.entry.Entry.{Entry}
 use Rattle.run_record.specs.declared.limits.Limits.{Limits}
@@ -118,11 +118,12 @@ module _ (file : List ℕ) (limits : Limits) (ok : image_of file ≡ Ok file) wh
     pub follow : AreRounds turn (watched.between limits.slots) watched_stamp place_stamp base m rounds
     pub told : AreRoundsOf file limits.harts limits.epochs round era rounds (listed_entries rs)
     pub waits : AllZip TellsAs rounds wss
+    pub ends : map (λ (r : WatchedRound). r.ends) rounds ≡ map (λ (r : HandRound). r.ends) rs
 
   pub all_follow : (rs : List HandRound) (wss : List (List Awaited)) (c : Hands) (m : Watched) (w : World) (h : List Moment) (round era base : ℕ) →
       StandsStamped file limits c m w h → era_now limits.epochs h ≡ era → AreHandRounds file limits round era base c rs →
       AllListed file limits era rs wss → AllFollow round era base m rs wss
-  all_follow [] [] c m w h round era base s is all a = record { rounds = []; follow = tt; told = tt; waits = tt }
+  all_follow [] [] c m w h round era base s is all a = record { rounds = []; follow = tt; told = tt; waits = tt; ends = refl }
   all_follow [] (ws ∷ wss) c m w h round era base s is all a = absurd a
   all_follow (r ∷ rs) [] c m w h round era base s is all a = absurd a
   all_follow (r ∷ rs) (ws ∷ wss) c m w h round era base s is all a =
@@ -147,4 +148,5 @@ module _ (file : List ℕ) (limits : Limits) (ok : image_of file ≡ Ok file) wh
               (sym one.ends_is) others.told,
         );
         waits = (one.waits ws a.0, others.waits);
+        ends = ap₂ (λ (b : Bool) (bs : List Bool). b ∷ bs) one.ends_is others.ends;
       }

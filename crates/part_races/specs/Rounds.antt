@@ -61,3 +61,12 @@ AllAwait file limits era [] [] = Unit {0}
 AllAwait file limits era (r ∷ rs) (awaited ∷ later) =
     RoundAwaits file limits era r awaited × AllAwait file limits (if r.ends then era + 1 else era) rs later
 AllAwait file limits era _ _ = ⊥
+
+-- the era after these rounds, where that one was before them
+abbrev pub era_after : ℕ → List PartRound → ℕ
+era_after era [] = era
+era_after era (r ∷ rs) = era_after (if r.ends then era + 1 else era) rs
+
+-- the entries of each round
+abbrev pub entries_by_round : List PartRound → List (List Entry)
+entries_by_round rs = map (λ (r : PartRound). r.entries) rs
