@@ -6,3 +6,5 @@ pub mod Lists
 pub mod Parts
 pub mod Collecting
 pub mod Moved
+pub mod Last
+pub mod Histories

@@ -68,5 +68,5 @@ era_after era [] = era
 era_after era (r ∷ rs) = era_after (if r.ends then era + 1 else era) rs
 
 -- the entries of each round
-abbrev pub entries_by_round : List PartRound → List (List Entry)
-entries_by_round rs = map (λ (r : PartRound). r.entries) rs
+abbrev pub entries_of_rounds : List PartRound → List (List Entry)
+entries_of_rounds rs = map (λ (r : PartRound). r.entries) rs
