@@ -192,7 +192,7 @@ made_as_many file harts era t k (x ∷ xs) found left pf pl ws a =
     length-append x.events (all_events xs) ∙ (ap₂ (λ (u v : ℕ). u + v) one rest ∙ sym (length-append x.checks (all_checks xs)))
 
 -- what is told of moments stands behind a history
-stand_behind : (h ms : List Moment) (xs : List Told) → AllZip IsTold ms xs → StandFrom (h ++ ms) (length h) xs
+pub stand_behind : (h ms : List Moment) (xs : List Told) → AllZip IsTold ms xs → StandFrom (h ++ ms) (length h) xs
 stand_behind h [] [] z = tt
 stand_behind h [] (x ∷ xs) z = absurd z
 stand_behind h (m ∷ ms) [] z = absurd z
@@ -248,21 +248,26 @@ module _ (file : List ℕ) (limits : Limits) (ok : image_of file ≡ Ok file) (c
       ∙ ap (λ (zs : List Moment). span g (h ++ zs) (length h) zs) one
   deed_span _ (Makes xs ws a tm) = made_in_deed xs ws a tm
 
-  -- and what the watched machine tells where it follows
-  pub deed_told : (acts : List Act) (ws : List Awaited) → IsFollowed file limits c m h t k hand held e acts →
-      AwaitsIn file limits (era_now g h) t k (c.local t) hand (c.value k) held e ws →
-      told_awaits (all_of (many (watched_turn file limits.harts g) t acts (m.local t) (m.value k)).told) ≡ ws
-  deed_told acts ws f a =
+  -- what the watched machine tells where it follows is right
+  pub told_right : (acts : List Act) → IsFollowed file limits c m h t k hand held e acts →
+      AreRight file g then (length h) (all_of (many (watched_turn file limits.harts g) t acts (m.local t) (m.value k)).told)
+  told_right acts f =
       let turn = watched_turn file limits.harts g in
       let told = (many turn t acts (m.local t) (m.value k)).told in
       let call : Call (List Act) = single t k acts in
       let once : told ≡ tells turn m (singles t k acts) =
       sym (append-nil told) ∙ (many_tells turn m (call ∷ []) ∙ ap (tells turn m) (append-nil (singles t k acts))) in
-      let stand = stand_behind h (entry_moments 0 e) (all_of told) f.told in
       let right = (runs file limits.harts g limits.slots ok then w (length h) m (singles t k acts)
       (watched_stays file limits.harts g limits.slots w h (entry_moments 0 e) m s.watched)
       (acts_placed file limits.harts g m t k acts f.placed)
-      (subst (λ (xss : List (List Told)). StandFrom then (length h) (all_of xss)) once stand)).right in
-      told_span file g then (length h) (all_of told) stand
-      (subst (λ (xss : List (List Told)). AreRight file g then (length h) (all_of xss)) (sym once) right)
+      (subst (λ (xss : List (List Told)). StandFrom then (length h) (all_of xss)) once (stand_behind h (entry_moments 0 e) (all_of told) f.told))).right in
+      subst (λ (xss : List (List Told)). AreRight file g then (length h) (all_of xss)) (sym once) right
+
+  -- and it is what the deed awaits
+  pub deed_told : (acts : List Act) (ws : List Awaited) → IsFollowed file limits c m h t k hand held e acts →
+      AwaitsIn file limits (era_now g h) t k (c.local t) hand (c.value k) held e ws →
+      told_awaits (all_of (many (watched_turn file limits.harts g) t acts (m.local t) (m.value k)).told) ≡ ws
+  deed_told acts ws f a =
+      let told = (many (watched_turn file limits.harts g) t acts (m.local t) (m.value k)).told in
+      told_span file g then (length h) (all_of told) (stand_behind h (entry_moments 0 e) (all_of told) f.told) (told_right acts f)
       ∙ (sym (span_zip IsTold g then (length h) (entry_moments 0 e) (all_of told) f.told) ∙ sym (deed_span ws a))

@@ -38,7 +38,7 @@ use Rattle.part_races.specs.Rounds.{AllAwait, era_after, entries_of_rounds}
 use Rattle.part_races.proofs.Spans.{told_awaits}
 use Rattle.part_races.proofs.Rounds.{AllFollow, TellsAs, all_follow}
 use Rattle.part_races.proofs.Parts.{HandsAwait, hands_await}
-use Rattle.part_races.proofs.Collecting.{quiet_rounds, collects_told, collects_rounds, last_stands, last_right}
+use Rattle.part_races.proofs.Collecting.{quiet_at, quiet_rounds, collects_told, collects_rounds, last_stands, last_right}
 use Rattle.part_races.proofs.Moved.{same_length, alike_collects, collects_shorter, collects_until}
 use Rattle.part_races.proofs.Last.{Split, split, as_many, last_tells, same_era, round_alike, eras_below, no_checks, no_era}
 
@@ -105,7 +105,7 @@ module _ (file : List ℕ) (limits : Limits) (lay : Layout) (m : State (Stamped 
       let alike : AreAlike h k = rounds_alike file limits.harts g 0 0 [] [] t.rounds ess t.told (omega arith) tt in
       let n = position_after 0 t.rounds in
       let count : n ≡ length k = (let q = as_many file limits.harts g 0 0 0 t.rounds ess t.told in let l = same_length h k alike in omega (arith, q, l)) in
-      let here = collects_rounds file g h (quiet_rounds t.rounds ess) 0 t.rounds wss 0 [] Begin t.stand t.right t.waits in
+      let here = collects_rounds file g h 0 (λ i l. quiet_at h (quiet_rounds t.rounds ess) i) 0 t.rounds wss 0 [] (omega arith) Begin t.stand t.right t.waits in
       let there = alike_collects g h k alike 0 n ws here in
       let trailing = era_moments (last_era all) (length all) round era in
       let long = length-append (moments all) trailing in
@@ -153,7 +153,8 @@ module _ (file : List ℕ) (limits : Limits) (lay : Layout) (m : State (Stamped 
         let stand = last_stands h 0 s.early s.last (subst (λ (xs : List WatchedRound). RoundsStand h 0 xs) s.whole t.stand) in
         let right = last_right file g h 0 s.early s.last (subst (λ (xs : List WatchedRound). RoundsAreRight file g h 0 xs) s.whole t.right) in
         subst (Collects g h n (n + length (round_told s.last))) told_last
-        (collects_told file g h (quiet_rounds t.rounds (entries_of_rounds (before ++ r ∷ []))) n n (round_told s.last) [] Begin stand right)
+        (collects_told file g h 0 (λ i l. quiet_at h (quiet_rounds t.rounds (entries_of_rounds (before ++ r ∷ []))) i) n n (round_told s.last) []
+        (omega arith) Begin stand right)
 
     begins_at : n ≡ length pre
     begins_at = let q = as_many file limits.harts g 0 0 0 s.early (entries_of_rounds before) s.told in omega (arith, q)

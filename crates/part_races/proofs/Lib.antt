@@ -8,3 +8,5 @@ pub mod Collecting
 pub mod Moved
 pub mod Last
 pub mod Histories
+pub mod Growing
+pub mod Made

@@ -1,2 +1,92 @@
 //! What workers tell of races.
+//!
+//! A worker tests by its thread's clock each word that the checks of an access loaded, and where one races it tells the access, with
+//! the thread's stack and locks, as one that awaits the end of the round. `TellsRaces` says what it tells of each deed of its part.
+//! What all workers of a round told is sorted as their entries are. The laws say that this is what the sorted history collects:
+//! those of its accesses which loaded a word that races by the history's own clocks, in their order, each as the history tells it. So
+//! it is of each round, and of all of them.
+//!
+//! `hart_parts` and `report_laws` stand below this crate, with what is below them. Its functions do nothing: the contract of each is
+//! a law. The layer above gathers what awaits by `grows_law`, and at a round's end cites `round_law`, for the laws of reports.
 #![tactic(auto)]
+
+ghost use Rattle.std.specs.Prelude.{◌≡◌, ◌≢◌, ℕ, List, [], ◌∷◌, ◌++◌, length, Ok};
+ghost use Rattle.std.specs.List.{flat_map};
+ghost use Rattle.run_record.specs.declared.event.Event.{Event};
+ghost use Rattle.run_record.specs.declared.entry.Check.{Check};
+ghost use Rattle.run_record.specs.declared.entry.Entry.{Entry};
+ghost use Rattle.run_record.specs.declared.limits.Limits.{Limits};
+ghost use Rattle.elf_image.specs.File.{image_of};
+ghost use Rattle.run_laws.specs.Moments.{Moment, moments, moments_in, entry_moments};
+ghost use Rattle.run_laws.specs.Accesses.{access_of};
+ghost use Rattle.report_laws.specs.Awaited.{Awaited, Collects};
+ghost use Rattle.bare_machine.specs.World.{World};
+ghost use Rattle.turn_orders.specs.Machine.{State};
+ghost use Rattle.turn_orders.specs.LineUp.{Stamped};
+ghost use Rattle.joint_turns.specs.Joint.{Value};
+ghost use Rattle.watched_turns.specs.Turns.{Local, Act};
+ghost use Rattle.turn_histories.specs.Rounds.{all_entries};
+ghost use Rattle.race_core.specs.Watched.{AreWatcherLimits};
+ghost use Rattle.race_core.specs.History.{era_now};
+ghost use Rattle.shared_table.specs.declared.object.Object.{Object};
+ghost use Rattle.shared_table.specs.declared.view.Layout.{Layout};
+ghost use Rattle.placed_detector.specs.Standing.{Hand, Held, Standing};
+ghost use Rattle.placed_detector.specs.Instructions.{Beside, HearsEvent};
+ghost use Rattle.deed_histories.specs.Deeds.{Made, IsDeed};
+ghost use Rattle.table_deeds.specs.Objects.{AreFirstObjects};
+ghost use Rattle.hart_parts.specs.Rounds.{PartRound, ArePartRounds};
+ghost use Rattle.part_races.specs.Awaits.{awaits_at, AwaitsEvents, AwaitsInstruction, AwaitsMade, AwaitsIn};
+ghost use Rattle.part_races.specs.Rounds.{AllAwait, era_after, entries_of_rounds};
+
+/// What awaits grows by each event that is heard, and by each instruction that is made.
+pub fn grows_law()
+    ensures events { (k t : ℕ) (es : List Event) (css : List (List Check)) (old mid new : Beside) (awaited : List Awaited) (e : Event) (checks : List Check) →
+        AwaitsEvents k t es css old mid awaited → HearsEvent k t e mid new →
+        AwaitsEvents k t (es ++ e ∷ []) (css ++ checks ∷ []) old new (awaited ++ awaits_at mid.watched (access_of e) checks) }
+    ensures made { (file : List ℕ) (harts era t k : ℕ) (xs : List Made) (x : Made) (found hand left : Hand) (place_found held place_left : Held)
+        (awaited later : List Awaited) →
+        AwaitsMade file harts era t k xs found hand place_found held awaited →
+        AwaitsInstruction file harts era t k x hand left held place_left later →
+        AwaitsMade file harts era t k (xs ++ x ∷ []) found left place_found place_left (awaited ++ later) }
+{}
+
+/// Where workers and places stand as a history leaves them, and a deed is made, the history with the deed's entry collects what
+/// the history did, and behind it what the deed awaits.
+pub fn deed_law()
+    ensures { (file : List ℕ) (limits : Limits) (c : State Hand Held) (m : State Local Value) (w : World) (h : List Moment) (t k : ℕ)
+        (hand : Hand) (held : Held) (e : Entry) (acts : List Act) (from : ℕ) (waiting awaited : List Awaited) →
+        image_of file ≡ Ok file → Standing file limits c m w h →
+        IsDeed file limits (era_now limits.epochs h) t k (c.local t) hand (c.value k) held e acts →
+        AwaitsIn file limits (era_now limits.epochs h) t k (c.local t) hand (c.value k) held e awaited →
+        Collects limits.epochs h from (length h) waiting →
+        Collects limits.epochs (h ++ entry_moments 0 e) from (length (h ++ entry_moments 0 e)) (waiting ++ awaited) }
+{}
+
+/// After a round the sorted history, from where the round begins, collects what the round's workers told. (Its moments are told
+/// with the eras that begin before the round. They are those of the history alone where the round has entries.)
+pub fn round_law()
+    ensures collects { (file : List ℕ) (limits : Limits) (lay : Layout) (m : State (Stamped Hand) Object) (before : List PartRound) (r : PartRound)
+        (told : List (List Awaited)) (awaited : List Awaited) (round : ℕ) →
+        AreWatcherLimits limits → AreFirstObjects file limits m → image_of file ≡ Ok file →
+        ArePartRounds file limits lay 0 0 0 m (before ++ r ∷ []) → AllAwait file limits 0 (before ++ r ∷ []) (told ++ awaited ∷ []) →
+        let entries = all_entries (entries_of_rounds before) in
+        let era = era_after 0 before in
+        let h = moments_in round era (entries ++ r.entries) in
+        Collects limits.epochs h (length (moments_in round era entries)) (length h) awaited }
+    ensures some { (file : List ℕ) (limits : Limits) (lay : Layout) (m : State (Stamped Hand) Object) (before : List PartRound) (r : PartRound)
+        (told : List (List Awaited)) (awaited : List Awaited) (round : ℕ) →
+        AreWatcherLimits limits → AreFirstObjects file limits m → image_of file ≡ Ok file →
+        ArePartRounds file limits lay 0 0 0 m (before ++ r ∷ []) → AllAwait file limits 0 (before ++ r ∷ []) (told ++ awaited ∷ []) → r.entries ≢ [] →
+        let entries = all_entries (entries_of_rounds before) in
+        let h = moments (entries ++ r.entries) in
+        Collects limits.epochs h (length (moments_in round (era_after 0 before) entries)) (length h) awaited }
+{}
+
+/// From a new table on, the sorted history of all rounds collects what all workers told, one round after another.
+pub fn history_law()
+    ensures { (file : List ℕ) (limits : Limits) (lay : Layout) (m : State (Stamped Hand) Object) (rs : List PartRound) (told : List (List Awaited)) →
+        AreWatcherLimits limits → AreFirstObjects file limits m → image_of file ≡ Ok file →
+        ArePartRounds file limits lay 0 0 0 m rs → AllAwait file limits 0 rs told →
+        let h = moments (all_entries (entries_of_rounds rs)) in
+        Collects limits.epochs h 0 (length h) (flat_map (λ (awaited : List Awaited). awaited) told) }
+{}

@@ -1,0 +1,8 @@
+use Rattle.part_races.proofs.Growing.{one_more_event, one_more_made}
+use Rattle.part_races.proofs.grows_law.Goals as goal
+
+pub returns-clause-events : goal.returns-clause-events
+returns-clause-events c = one_more_event
+
+pub returns-clause-made : goal.returns-clause-made
+returns-clause-made c = one_more_made
