@@ -1,5 +1,5 @@
 -- Where rounds of the watched machine stand in a history, what they tell of races is what the history collects.
-use Rattle.std.proofs.Common.{◌≡◌, ◌≤◌, ◌+◌, ℕ, zero, suc, Bool, true, false, cond, Option, Some, None, List, [], ◌∷◌, ◌++◌, length, append_assoc, append-nil, refl, sym, ap, ap₂, subst, ◌∙◌, arith}
+use Rattle.std.proofs.Common.{◌≡◌, ◌≤◌, ◌+◌, ℕ, zero, suc, Bool, true, false, cond, Option, Some, None, List, [], ◌∷◌, ◌++◌, length, append_assoc, append-nil, refl, sym, ap, subst, ◌∙◌, arith}
 use Rattle.std.specs.Prelude.{map, option_map}
 use Rattle.std.specs.List.{AllZip, enumerate_from, flat_map}
 use Rattle.run_record.specs.declared.event.Event.{Event}
@@ -17,7 +17,7 @@ use Rattle.turn_orders.proofs.Members.{each_append}
 use Rattle.watched_turns.specs.Turns.{Raced, Told}
 use Rattle.watched_turns.specs.Along.{StandFrom, IsRight, AreRight, race_by_clock, raced_at}
 use Rattle.watched_turns.specs.Rounds.{WatchedRound, round_told, round_end, position_after, EraStands, RoundsStand, RoundsAreRight}
-use Rattle.turn_histories.proofs.Rounds.{an_era, eras_in, moments_of, rounds_moments}
+use Rattle.turn_histories.proofs.Rounds.{eras_in, moments_of, rounds_moments}
 use Rattle.part_races.proofs.Spans.{told_there, told_item, told_awaits}
 use Rattle.part_races.proofs.Rounds.{TellsAs}
 

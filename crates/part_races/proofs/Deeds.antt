@@ -10,7 +10,7 @@ use Rattle.run_record.specs.declared.entry.Entry.{Entry}
 use Rattle.run_record.specs.declared.entry.DeskNote.TheVariants.{Nothing}
 use Rattle.run_record.specs.declared.limits.Limits.{Limits}
 use Rattle.elf_image.specs.File.{image_of}
-use Rattle.run_laws.specs.Moments.{Does, Notes, NewEra, Past, Moment, moment_at, items, entry_moments, event_moment}
+use Rattle.run_laws.specs.Moments.{Does, Notes, NewEra, Past, Moment, moment_at, entry_moments, event_moment}
 use Rattle.run_laws.specs.Accesses.{Access, access_of}
 use Rattle.run_laws.specs.Clocks.{Clocks}
 use Rattle.run_laws.specs.Present.{clocks_now}
@@ -28,7 +28,7 @@ use Rattle.joint_turns.specs.Joint.{Value}
 use Rattle.joint_turns.specs.Along as along
 use Rattle.watched_turns.specs.Checking.{checked_of}
 use Rattle.watched_turns.specs.Turns.{Local, Act, Told, steps, begins, watched_turn}
-use Rattle.watched_turns.specs.Along.{StandFrom, AreRight, WerePlaced, all_of}
+use Rattle.watched_turns.specs.Along.{StandFrom, AreRight, all_of}
 use Rattle.watched_turns.proofs.Run.{runs}
 use Rattle.watched_turns.proofs.Listed.{acts_placed}
 use Rattle.turn_histories.specs.Entries.{IsTold}

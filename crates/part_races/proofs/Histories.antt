@@ -1,5 +1,5 @@
 -- From the first state on, the history collects what the workers told.
-use Rattle.std.proofs.Common.{◌≡◌, ◌≤◌, ◌+◌, ℕ, Bool, List, [], ◌∷◌, ◌++◌, length, length-append, append_assoc, append-nil, refl, sym, ap, ap₂, subst, ◌∙◌, arith}
+use Rattle.std.proofs.Common.{◌≡◌, ◌+◌, ℕ, List, [], ◌∷◌, ◌++◌, length, length-append, append_assoc, refl, sym, ap, subst, ◌∙◌, arith}
 use Rattle.std.specs.Prelude.{map, Ok}
 use Rattle.std.specs.List.{AllZip, flat_map}
 use Rattle.std.proofs.lemmas.List.{map-append}
@@ -36,8 +36,8 @@ use Rattle.table_deeds.proofs.First.{first_kept}
 use Rattle.hart_parts.specs.Rounds.{PartRound, ArePartRounds}
 use Rattle.part_races.specs.Rounds.{AllAwait, era_after, entries_of_rounds}
 use Rattle.part_races.proofs.Spans.{told_awaits}
-use Rattle.part_races.proofs.Rounds.{AllFollow, TellsAs, all_follow}
-use Rattle.part_races.proofs.Parts.{HandsAwait, hands_await}
+use Rattle.part_races.proofs.Rounds.{TellsAs, all_follow}
+use Rattle.part_races.proofs.Parts.{hands_await}
 use Rattle.part_races.proofs.Collecting.{quiet_at, quiet_rounds, collects_told, collects_rounds, last_stands, last_right}
 use Rattle.part_races.proofs.Moved.{same_length, alike_collects, collects_shorter, collects_until}
 use Rattle.part_races.proofs.Last.{Split, split, as_many, last_tells, same_era, round_alike, eras_below, no_checks, no_era}

@@ -1,5 +1,5 @@
 -- The last of several rounds, and the moments of their entries before it and with it.
-use Rattle.std.proofs.Common.{◌≡◌, ◌≤◌, ◌+◌, ◌-◌, ℕ, zero, suc, Bool, true, false, cond, List, [], ◌∷◌, ◌++◌, length, length-append, append_assoc, append-nil, refl, sym, ap, ap₂, subst, ◌∙◌, arith}
+use Rattle.std.proofs.Common.{◌≡◌, ◌≤◌, ◌+◌, ◌-◌, ℕ, zero, suc, Bool, true, false, cond, List, [], ◌∷◌, ◌++◌, length, length-append, append_assoc, append-nil, refl, sym, ap, subst, ◌∙◌, arith}
 use Rattle.std.specs.Prelude.{map, replicate, fold}
 use Rattle.std.specs.List.{AllZip}
 use Rattle.std.proofs.Math.Seq.{get_or-append_right}
@@ -62,8 +62,14 @@ module _ (file : List ℕ) (harts g : ℕ) where
   as_many p round era (r ∷ rs) (es ∷ ess) of =
       let rest = as_many (round_end p r) (round + 1) (cond r.ends (era + 1) era) rs ess of.1 in
       let told = AllZip-long IsTold (moments_of es) (round_told r) (all_told file harts g r.listed es of.0.entries) in
-      omega (arith, rest, told, era_length file harts g r.ends, length-append (moments_of es) (eras_in r.ends ++ rounds_moments rs ess),
-      length-append (eras_in r.ends) (rounds_moments rs ess))
+      omega (
+        arith,
+        rest,
+        told,
+        era_length file harts g r.ends,
+        length-append (moments_of es) (eras_in r.ends ++ rounds_moments rs ess),
+        length-append (eras_in r.ends) (rounds_moments rs ess),
+      )
 
 pub last_tells : (early : List WatchedRound) (last : WatchedRound) (wss : List (List Awaited)) (ws : List Awaited) →
     AllZip TellsAs (early ++ last ∷ []) (wss ++ ws ∷ []) → TellsAs last ws

@@ -1,7 +1,7 @@
 -- Lists: what stands in one, and what goes with it.
 use Rattle.std.proofs.Common.{◌≡◌, ◌⊎◌, inl, inr, List, [], ◌∷◌, ◌++◌, refl, sym, ap, subst, ◌∙◌}
 use Rattle.std.specs.List.{AllZip, flat_map}
-use Rattle.turn_orders.specs.Lists.{Each, In, InOrder}
+use Rattle.turn_orders.specs.Lists.{In, InOrder}
 use Rattle.turn_orders.proofs.Members.{at_member}
 
 -- what goes with an element of the second list

@@ -1,5 +1,5 @@
 -- A history that goes on by a deed collects what the deed awaits.
-use Rattle.std.proofs.Common.{◌≡◌, ◌≤◌, ◌+◌, ◌-◌, ℕ, zero, suc, List, [], ◌∷◌, ◌++◌, length, length-append, append-nil, refl, sym, ap, subst, ◌∙◌, arith}
+use Rattle.std.proofs.Common.{◌≡◌, ◌≤◌, ◌+◌, ◌-◌, ℕ, List, [], ◌++◌, length, length-append, sym, subst, arith}
 use Rattle.std.specs.Prelude.{Ok}
 use Rattle.std.proofs.Math.Seq.{get_or-append_right}
 use Rattle.std.proofs.lemmas.Slice.Zip.{AllZip-long}
@@ -17,7 +17,7 @@ use Rattle.watched_turns.specs.Along.{all_of}
 use Rattle.turn_histories.specs.Entries.{IsTold}
 use Rattle.race_core.specs.History.{era_now}
 use Rattle.placed_detector.specs.Standing.{Hand, Held, Standing}
-use Rattle.deed_histories.specs.Deeds.{IsDeed, IsFollowed}
+use Rattle.deed_histories.specs.Deeds.{IsDeed}
 use Rattle.deed_histories.proofs.Entries.{followed}
 use Rattle.part_races.specs.Awaits.{AwaitsIn}
 use Rattle.part_races.proofs.Deeds.{stand_behind, deed_told, told_right}

@@ -1,5 +1,5 @@
 -- What a history collects, an alike one does, and one that goes on without checks.
-use Rattle.std.proofs.Common.{◌≡◌, ◌<◌, ◌≤◌, ◌⊎◌, inl, inr, ℕ, zero, suc, Bool, Option, Some, None, List, [], ◌∷◌, ◌++◌, length, refl, sym, ap, ap₂, subst, ◌∙◌, arith}
+use Rattle.std.proofs.Common.{◌≡◌, ◌≤◌, inl, inr, ℕ, zero, suc, Option, Some, None, List, [], ◌∷◌, ◌++◌, length, refl, sym, ap, ap₂, subst, ◌∙◌, arith}
 use Rattle.std.specs.Prelude.{filter_map, take}
 use Rattle.std.proofs.lemmas.Bool.{cases_lt}
 use mathlib.Core.Path.{fun_ext}
@@ -9,7 +9,7 @@ use Rattle.run_record.specs.declared.report.Side.{Side}
 use Rattle.run_laws.specs.Moments.{Item, Moment, moment_at, items}
 use Rattle.run_laws.specs.Accesses.{Access}
 use Rattle.run_laws.specs.Clocks.{clocks}
-use Rattle.run_laws.specs.Stacks.{event_by, events_before, frames_after, locks_after}
+use Rattle.run_laws.specs.Stacks.{event_by, events_before}
 use Rattle.run_laws.specs.Reports.{told_side}
 use Rattle.report_laws.specs.Awaited.{Awaited, Collects, Begin, Unchecked, Ordered, Unordered}
 use Rattle.report_laws.specs.Sound.{first_race_in, first_race}

@@ -1,6 +1,6 @@
 -- What the workers of a round told, sorted as the entries are, is what the deeds await as they are listed.
-use Rattle.std.proofs.Common.{◌≡◌, ◌≢◌, ◌<◌, ◌≤◌, ◌⊎◌, inl, inr, ℕ, ◌+◌, Bool, cond, Option, None, Some, List, [], ◌∷◌, ◌++◌, refl, sym, ap, ap₂, subst, ◌∙◌, arith}
-use Rattle.std.specs.Prelude.{◌==◌, map, IsPermutation}
+use Rattle.std.proofs.Common.{◌≡◌, ◌≤◌, inl, inr, ℕ, ◌+◌, Bool, cond, Option, None, Some, List, [], ◌∷◌, ◌++◌, refl, sym, ap, ap₂, subst, ◌∙◌, arith}
+use Rattle.std.specs.Prelude.{◌==◌, map}
 use Rattle.std.specs.List.{AllZip, flat_map}
 use Rattle.std.proofs.lemmas.List.{map-append}
 use Rattle.run_record.specs.declared.entry.Entry.{Entry}
@@ -18,7 +18,7 @@ use Rattle.woven_turns.proofs.Weaving.{in_left, in_right}
 use Rattle.placed_detector.specs.Standing.{Hand, Held}
 use Rattle.deed_histories.specs.Lines.{HandDeed, IsHandDeed, entries_of}
 use Rattle.deed_histories.specs.Rounds.{HandRound, hand_stamp, hands_after, AreHandRounds, listed_entries, top}
-use Rattle.table_deeds.specs.Objects.{ObjectDeed, hand_deed, hand_deeds, last_in, held_at}
+use Rattle.table_deeds.specs.Objects.{hand_deed, hand_deeds, last_in, held_at}
 use Rattle.table_deeds.specs.Rounds.{hands_in, last_stamp}
 use Rattle.table_deeds.proofs.Listing.{thread_of_deed}
 use Rattle.table_deeds.proofs.Rounds as table
@@ -26,7 +26,7 @@ use Rattle.hart_parts.specs.Parts.{Part, Rest, at_last_object, rest_deeds}
 use Rattle.hart_parts.specs.Rounds.{PartRound, IsPartRound, ArePartRounds, table_round}
 use Rattle.hart_parts.proofs.Seats.{rest_of}
 use Rattle.hart_parts.proofs.Rounds.{rises, part_is, begins, hands_of, part_of, round_is}
-use Rattle.part_races.specs.Rounds.{Tagged, entries_tagged, all_awaited, TellsAwaited, TellsRest, TellsRaces, RoundAwaits, AllAwait}
+use Rattle.part_races.specs.Rounds.{Tagged, entries_tagged, TellsAwaited, TellsRest, TellsRaces, RoundAwaits, AllAwait}
 use Rattle.part_races.proofs.Lists.{zip_in, in_either, in_one, same_place, same_first, same_rest}
 use Rattle.part_races.proofs.Rounds.{ListedAwait, AllListed}
 

@@ -1,9 +1,9 @@
 -- What the accesses of a stretch of a history await, by the clocks, stacks and locks of the history; and what the watched machine tells of it.
-use Rattle.std.proofs.Common.{◌≡◌, ◌<◌, ◌≤◌, ◌+◌, ℕ, suc, Option, Some, None, List, [], ◌∷◌, ◌++◌, length, append_assoc, append-nil, refl, sym, ap, ap₂, subst, ◌∙◌, arith}
+use Rattle.std.proofs.Common.{◌≡◌, ◌<◌, ◌≤◌, ◌+◌, ℕ, suc, Option, Some, None, List, [], ◌∷◌, ◌++◌, length, append_assoc, refl, sym, ap, ap₂, ◌∙◌, arith}
 use Rattle.std.specs.Prelude.{option_map}
 use Rattle.std.specs.List.{AllZip}
 use Rattle.run_record.specs.declared.entry.Check.{Check}
-use Rattle.run_laws.specs.Moments.{Item, Does, Notes, NewEra, Past, Moment, moment_at, items}
+use Rattle.run_laws.specs.Moments.{Item, Does, Notes, NewEra, Past, Moment, items}
 use Rattle.run_laws.specs.Accesses.{Access, access_of}
 use Rattle.run_laws.specs.Clocks.{Clocks}
 use Rattle.run_laws.specs.Reports.{told_side}

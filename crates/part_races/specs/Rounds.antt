@@ -36,7 +36,7 @@ TellsRest file limits era t found None xs = xs ≡ []
 TellsRest file limits era t found (Some r) xs =
     (x : Tagged) × (xs ≡ x ∷ [])
     × ((y : Object) → IsPrivate limits y → last_in y ≤ found.last →
-      TellsAwaited file limits era (hand_deed file limits (rest_deed t found y r)) x)
+    TellsAwaited file limits era (hand_deed file limits (rest_deed t found y r)) x)
 
 -- What a worker tells of the races of its part: of each deed at an object, and of what it made behind them.
 pub record TellsRaces (file : List ℕ) (limits : Limits) (era : ℕ) (p : Part) (xs : List Tagged) : Type 0 where
