@@ -7,7 +7,7 @@ use Rattle.report_laws.specs.Awaited.{Awaited}
 use Rattle.placed_detector.specs.Standing.{Hand, Held}
 use Rattle.placed_detector.specs.Instructions.{Beside, HearsEvent}
 use Rattle.deed_histories.specs.Deeds.{Made}
-use Rattle.part_races.specs.Awaits.{awaits_at, AwaitsEvents, AwaitsInstruction, AwaitsMade}
+use Rattle.part_races.specs.Awaits.{awaits_at, AwaitsEvents, AwaitsInstruction, AwaitsMade, AwaitsGathered}
 
 -- an event is heard behind the others
 pub one_more_event : (k t : ℕ) (es : List Event) (css : List (List Check)) (old mid new : Beside) (ws : List Awaited) (e : Event) (checks : List Check) →
@@ -55,4 +55,40 @@ one_more_made file harts era t k (y ∷ xs) x found hand left pf held pl ws late
   a.4,
   one_more_made file harts era t k xs x a.0 hand left a.1 held pl a.3 later a.5 i,
   ap (λ (xs : List Awaited). xs ++ later) a.6 ∙ append_assoc a.2 a.3 later,
+)
+
+-- an instruction without an object is made behind the others
+pub one_more_gathered : (file : List ℕ) (harts era t : ℕ) (xs : List Made) (x : Made) (found hand left : Hand) (ws later : List Awaited) →
+    AwaitsGathered file harts era t xs found hand ws →
+    ((k : ℕ) (held : Held) → AwaitsInstruction file harts era t k x hand left held held later) →
+    AwaitsGathered file harts era t (xs ++ x ∷ []) found left (ws ++ later)
+one_more_gathered file harts era t [] x found hand left ws later a i = (
+  left,
+  later,
+  [],
+  (λ k held. subst (λ (l : Hand). AwaitsInstruction file harts era t k x l left held held later) (sym a.0) (i k held)),
+  (refl, refl),
+  ap (λ (xs : List Awaited). xs ++ later) a.1 ∙ sym (append-nil later),
+)
+one_more_gathered file harts era t (y ∷ xs) x found hand left ws later a i = (
+  a.0,
+  a.1,
+  a.2 ++ later,
+  a.3,
+  one_more_gathered file harts era t xs x a.0 hand left a.2 later a.4 i,
+  ap (λ (xs : List Awaited). xs ++ later) a.5 ∙ append_assoc a.1 a.2 later,
+)
+
+-- what was gathered was made at any place
+pub gathered_there : (file : List ℕ) (harts era t k : ℕ) (xs : List Made) (found left : Hand) (held : Held) (ws : List Awaited) →
+    AwaitsGathered file harts era t xs found left ws → AwaitsMade file harts era t k xs found left held held ws
+gathered_there file harts era t k [] found left held ws a = (a.0, refl, a.1)
+gathered_there file harts era t k (x ∷ xs) found left held ws a = (
+  a.0,
+  held,
+  a.1,
+  a.2,
+  a.3 k held,
+  gathered_there file harts era t k xs a.0 left held a.2 a.4,
+  a.5,
 )

@@ -10,3 +10,4 @@ pub mod Last
 pub mod Histories
 pub mod Growing
 pub mod Made
+pub mod Sorting

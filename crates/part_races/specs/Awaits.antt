@@ -54,6 +54,15 @@ AwaitsMade file harts era t k (x ∷ xs) found left place_found place_left await
     × AwaitsInstruction file harts era t k x found hand place_found held first
     × AwaitsMade file harts era t k xs hand left held place_left later × (awaited ≡ first ++ later)
 
+-- Instructions that use no object, one after another: whatever place the thread is at and whatever this has, these of their accesses
+-- await.
+abbrev pub AwaitsGathered : List ℕ → ℕ → ℕ → ℕ → List Made → Hand → Hand → List Awaited → Type 0
+AwaitsGathered file harts era t [] found left awaited = (found ≡ left) × (awaited ≡ [])
+AwaitsGathered file harts era t (x ∷ xs) found left awaited =
+    (hand : Hand) × (first : List Awaited) × (later : List Awaited)
+    × ((k : ℕ) (held : Held) → AwaitsInstruction file harts era t k x found hand held held first)
+    × AwaitsGathered file harts era t xs hand left later × (awaited ≡ first ++ later)
+
 -- ---- a deed
 
 -- What a deed of thread t at place k that left this entry awaits: nothing where the entry has no events, and else what its

@@ -35,10 +35,10 @@ ghost use Rattle.placed_detector.specs.Instructions.{Beside, HearsEvent};
 ghost use Rattle.deed_histories.specs.Deeds.{Made, IsDeed};
 ghost use Rattle.table_deeds.specs.Objects.{AreFirstObjects};
 ghost use Rattle.hart_parts.specs.Rounds.{PartRound, ArePartRounds};
-ghost use Rattle.part_races.specs.Awaits.{awaits_at, AwaitsEvents, AwaitsInstruction, AwaitsMade, AwaitsIn};
+ghost use Rattle.part_races.specs.Awaits.{awaits_at, AwaitsEvents, AwaitsInstruction, AwaitsMade, AwaitsGathered, AwaitsIn};
 ghost use Rattle.part_races.specs.Rounds.{AllAwait, era_after, entries_of_rounds};
 
-/// What awaits grows by each event that is heard, and by each instruction that is made.
+/// What awaits grows by each event that is heard, and by each instruction that is made, also where the place isn't known yet.
 pub fn grows_law()
     ensures events { (k t : ℕ) (es : List Event) (css : List (List Check)) (old mid new : Beside) (awaited : List Awaited) (e : Event) (checks : List Check) →
         AwaitsEvents k t es css old mid awaited → HearsEvent k t e mid new →
@@ -48,6 +48,12 @@ pub fn grows_law()
         AwaitsMade file harts era t k xs found hand place_found held awaited →
         AwaitsInstruction file harts era t k x hand left held place_left later →
         AwaitsMade file harts era t k (xs ++ x ∷ []) found left place_found place_left (awaited ++ later) }
+    ensures gathered { (file : List ℕ) (harts era t : ℕ) (xs : List Made) (x : Made) (found hand left : Hand) (awaited later : List Awaited) →
+        AwaitsGathered file harts era t xs found hand awaited →
+        ((k : ℕ) (held : Held) → AwaitsInstruction file harts era t k x hand left held held later) →
+        AwaitsGathered file harts era t (xs ++ x ∷ []) found left (awaited ++ later) }
+    ensures placed { (file : List ℕ) (harts era t k : ℕ) (xs : List Made) (found left : Hand) (held : Held) (awaited : List Awaited) →
+        AwaitsGathered file harts era t xs found left awaited → AwaitsMade file harts era t k xs found left held held awaited }
 {}
 
 /// Where workers and places stand as a history leaves them, and a deed is made, the history with the deed's entry collects what
