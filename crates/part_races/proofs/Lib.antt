@@ -11,3 +11,4 @@ pub mod Histories
 pub mod Growing
 pub mod Made
 pub mod Sorting
+pub mod Sorted

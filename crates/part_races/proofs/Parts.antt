@@ -87,7 +87,7 @@ module _ (file : List ℕ) (limits : Limits) (era : ℕ) where
         (filter_in (λ (e : HandDeed). e.call.thread == p.thread) d made (subst (In d) (sym same) j)).0
 
     -- the stamp of the thread's own place is not greater than its own
-    low : (p : Part) → In p r.parts → last_in (m.value (desk + 1 + p.thread)) ≤ (at_last_object p).last
+    pub low : (p : Part) → In p r.parts → last_in (m.value (desk + 1 + p.thread)) ≤ (at_last_object p).last
     low p i =
         let is = part_is file limits lay round era m r h p i in
         let l : last_in (m.value (desk + 1 + p.thread)) ≤ r.base = h.stamps.places (desk + 1 + p.thread) in

@@ -7,11 +7,12 @@
 //! it is of each round, and of all of them.
 //!
 //! `hart_parts` and `report_laws` stand below this crate, with what is below them. Its functions do nothing: the contract of each is
-//! a law. The layer above gathers what awaits by `grows_law`, and at a round's end cites `round_law`, for the laws of reports.
+//! a law. The layer above gathers what awaits by `grows_law`, sorts it at a round's end by `sorted_law`, and cites `round_law` for the
+//! laws of reports.
 #![tactic(auto)]
 
 ghost use Rattle.std.specs.Prelude.{◌≡◌, ◌≢◌, ℕ, List, [], ◌∷◌, ◌++◌, length, Ok};
-ghost use Rattle.std.specs.List.{flat_map};
+ghost use Rattle.std.specs.List.{flat_map, AllZip};
 ghost use Rattle.run_record.specs.declared.event.Event.{Event};
 ghost use Rattle.run_record.specs.declared.entry.Check.{Check};
 ghost use Rattle.run_record.specs.declared.entry.Entry.{Entry};
@@ -34,9 +35,10 @@ ghost use Rattle.placed_detector.specs.Standing.{Hand, Held, Standing};
 ghost use Rattle.placed_detector.specs.Instructions.{Beside, HearsEvent};
 ghost use Rattle.deed_histories.specs.Deeds.{Made, IsDeed};
 ghost use Rattle.table_deeds.specs.Objects.{AreFirstObjects};
-ghost use Rattle.hart_parts.specs.Rounds.{PartRound, ArePartRounds};
+ghost use Rattle.hart_parts.specs.Rounds.{PartRound, IsPartRound, ArePartRounds};
 ghost use Rattle.part_races.specs.Awaits.{awaits_at, AwaitsEvents, AwaitsInstruction, AwaitsMade, AwaitsGathered, AwaitsIn};
-ghost use Rattle.part_races.specs.Rounds.{AllAwait, era_after, entries_of_rounds};
+ghost use Rattle.part_races.specs.Rounds.{Tagged, TellsRaces, RoundAwaits, AllAwait, era_after, entries_of_rounds};
+ghost use Rattle.part_races.specs.Sorting.{Keyed, all_keyed, awaited_in, AreSorted};
 
 /// What awaits grows by each event that is heard, and by each instruction that is made, also where the place isn't known yet.
 pub fn grows_law()
@@ -66,6 +68,15 @@ pub fn deed_law()
         AwaitsIn file limits (era_now limits.epochs h) t k (c.local t) hand (c.value k) held e awaited →
         Collects limits.epochs h from (length h) waiting →
         Collects limits.epochs (h ++ entry_moments 0 e) from (length (h ++ entry_moments 0 e)) (waiting ++ awaited) }
+{}
+
+/// Where a coordinator takes all that the workers of a round told, one worker after another, and sorts it by the stamps and threads of
+/// the entries, keeping the order within an entry, it has what the round awaits.
+pub fn sorted_law()
+    ensures { (file : List ℕ) (limits : Limits) (lay : Layout) (round era : ℕ) (m : State (Stamped Hand) Object) (r : PartRound)
+        (told : List (List Tagged)) (keys : List Keyed) →
+        IsPartRound file limits lay round era m r → AllZip (TellsRaces file limits era) r.parts told →
+        AreSorted (all_keyed (flat_map (λ (xs : List Tagged). xs) told)) keys → RoundAwaits file limits era r (awaited_in keys) }
 {}
 
 /// After a round the sorted history, from where the round begins, collects what the round's workers told. (Its moments are told
