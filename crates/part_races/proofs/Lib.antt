@@ -12,3 +12,4 @@ pub mod Growing
 pub mod Made
 pub mod Sorting
 pub mod Sorted
+pub mod More

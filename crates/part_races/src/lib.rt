@@ -79,6 +79,15 @@ pub fn sorted_law()
         AreSorted (all_keyed (flat_map (λ (xs : List Tagged). xs) told)) keys → RoundAwaits file limits era r (awaited_in keys) }
 {}
 
+/// What rounds await grows by that of each round. Where a round has no entries, nothing of it awaits.
+pub fn rounds_law()
+    ensures more { (file : List ℕ) (limits : Limits) (era : ℕ) (rs : List PartRound) (r : PartRound) (told : List (List Awaited)) (awaited : List Awaited) →
+        AllAwait file limits era rs told → RoundAwaits file limits (era_after era rs) r awaited →
+        AllAwait file limits era (rs ++ r ∷ []) (told ++ awaited ∷ []) }
+    ensures none { (file : List ℕ) (limits : Limits) (era : ℕ) (r : PartRound) (awaited : List Awaited) →
+        RoundAwaits file limits era r awaited → r.entries ≡ [] → awaited ≡ [] }
+{}
+
 /// After a round the sorted history, from where the round begins, collects what the round's workers told. (Its moments are told
 /// with the eras that begin before the round. They are those of the history alone where the round has entries.)
 pub fn round_law()
