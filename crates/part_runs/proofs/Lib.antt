@@ -1,0 +1,3 @@
+pub mod Sound
+pub mod Firsts
+pub mod Found

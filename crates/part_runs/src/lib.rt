@@ -1,0 +1,60 @@
+//! From the rounds that workers made to a lawful history, and to a run with its reports.
+//!
+//! The one who starts the rounds has one record of what it knows of them (`AreRounds`, and `AreAllRounds` when the run is over):
+//! the workers' parts, the past of the table, what was due, and how the run ended. By the laws the entries of all rounds are then
+//! a lawful history of threads that run at once. At each round's end the accesses that await it have owners, and can be sought in
+//! the traces of these (`owned_law`). The reports which the traces tell there, offered round after round, are those of the history;
+//! and so what is kept of the run is one (`run_law`).
+//!
+//! Below stand `hart_parts` and the laws of rounds of parts, `part_notes`, `whole_parts` and `cell_loads`; and beside them
+//! `report_laws` and `whole_runs`, with reports and runs. The functions here do nothing: the contract of each is a law. The layer
+//! above makes rounds, cites `owned_law` at the end of each, and `run_law` when the run is over.
+#![tactic(auto)]
+
+ghost use Rattle.std.specs.Prelude.{◌≡◌, ℕ, Bool, List, [], Option};
+ghost use Rattle.run_record.specs.declared.limits.Limits.{Limits};
+ghost use Rattle.run_record.specs.declared.finished.LastState.{LastState};
+ghost use Rattle.run_record.specs.declared.plan.Turn.{Turn};
+ghost use Rattle.run_record.specs.declared.finished.Finished.{Finished};
+ghost use Rattle.elf_image.specs.File.{granule_of};
+ghost use Rattle.run_laws.specs.Faithful.{AtOnce, needs_slot};
+ghost use Rattle.run_laws.specs.Lawful.{IsLawful};
+ghost use Rattle.run_laws.specs.Reports.{kept_of};
+ghost use Rattle.machine_laws.specs.Machine.{bare_of};
+ghost use Rattle.report_laws.specs.Sound.{IsSound};
+ghost use Rattle.whole_runs.specs.Run.{IsRun, kept_in};
+ghost use Rattle.turn_orders.specs.Machine.{State};
+ghost use Rattle.turn_orders.specs.LineUp.{Stamped};
+ghost use Rattle.shared_table.specs.declared.object.DeskState.{DeskState};
+ghost use Rattle.shared_table.specs.declared.object.Object.{Object};
+ghost use Rattle.shared_table.specs.declared.view.Layout.{Layout};
+ghost use Rattle.shared_table.specs.Past.{Past};
+ghost use Rattle.placed_detector.specs.Standing.{Hand};
+ghost use Rattle.hart_parts.specs.Rounds.{PartRound};
+ghost use Rattle.part_runs.specs.Runs.{entries_of_rounds, AreRounds, AreAllRounds};
+ghost use Rattle.part_runs.specs.Told.{RoundReports, AreToldRounds, all_told};
+
+/// The entries of rounds so far have what the laws of reports ask for.
+pub fn sound_law()
+    ensures { (file : List ℕ) (limits : Limits) (lay : Layout) (past : Past) (m : State (Stamped Hand) Object) (rs : List PartRound) →
+        AreRounds file limits lay past m rs → let entries = entries_of_rounds rs in
+        IsSound limits (granule_of file) (needs_slot (bare_of file limits.harts) entries) entries }
+{}
+
+/// The entries of all rounds of a run are a lawful history of threads that run at once, whatever plan there is, and it ends in the
+/// run's last state.
+pub fn lawful_law()
+    ensures { (file : List ℕ) (limits : Limits) (lay : Layout) (past : Past) (m : State (Stamped Hand) Object) (rs : List PartRound)
+        (plan : List Turn) (closed : DeskState) (last : LastState) → AreAllRounds file limits lay past m rs closed last →
+        (l : IsLawful AtOnce limits plan (bare_of file limits.harts) (granule_of file) (entries_of_rounds rs)) × (l.last ≡ last) }
+{}
+
+/// Where at each round's end reports were told of the accesses that awaited it, and all were offered one after another by the rules
+/// that two stacks may meet, what is kept with the entries of all rounds and the last desk's output is a run, whatever plan there is.
+pub fn run_law()
+    ensures { (file : List ℕ) (limits : Limits) (lay : Layout) (past : Past) (m : State (Stamped Hand) Object) (rs : List PartRound)
+        (plan : List Turn) (closed : DeskState) (ts : List RoundReports) (meets : Option (List ℕ) → Option (List ℕ) → Bool) (f : Finished) →
+        AreAllRounds file limits lay past m rs closed f.last → AreToldRounds file limits [] rs ts →
+        f.history.entries ≡ entries_of_rounds rs → kept_in f ≡ kept_of meets (all_told ts) → f.output ≡ closed.machine.output →
+        IsRun AtOnce file limits plan meets f }
+{}
