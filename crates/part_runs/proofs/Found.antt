@@ -1,5 +1,5 @@
 -- The reports that are told at rounds' ends are found.
-use Rattle.std.proofs.Common.{◌≡◌, ℕ, zero, suc, ◌+◌, ◌-◌, ◌≤◌, ⊥, Bool, true, false, Option, List, [], ◌∷◌, ◌++◌, length, length-append, append_assoc, zero-add, subst, sym, refl, ap, ◌∙◌, arith}
+use Rattle.std.proofs.Common.{◌≡◌, ℕ, zero, suc, ◌+◌, ◌-◌, ◌≤◌, inl, inr, Bool, true, false, Option, List, [], ◌∷◌, ◌++◌, length, length-append, append_assoc, zero-add, subst, sym, refl, ap, ◌∙◌, arith}
 use Rattle.std.specs.Prelude.{All, fold, replicate}
 use Rattle.std.specs.List.{AllZip, list_any}
 use Rattle.std.proofs.lemmas.Bool.{cases_Bool}

@@ -1,3 +1,4 @@
 pub mod Sound
 pub mod Firsts
 pub mod Found
+pub mod Owned

@@ -11,17 +11,19 @@
 //! above makes rounds, cites `owned_law` at the end of each, and `run_law` when the run is over.
 #![tactic(auto)]
 
-ghost use Rattle.std.specs.Prelude.{◌≡◌, ℕ, Bool, List, [], Option};
+ghost use Rattle.std.specs.Prelude.{◌≡◌, ℕ, Bool, List, [], ◌∷◌, ◌++◌, Option, All};
 ghost use Rattle.run_record.specs.declared.limits.Limits.{Limits};
 ghost use Rattle.run_record.specs.declared.finished.LastState.{LastState};
 ghost use Rattle.run_record.specs.declared.plan.Turn.{Turn};
 ghost use Rattle.run_record.specs.declared.finished.Finished.{Finished};
-ghost use Rattle.elf_image.specs.File.{granule_of};
+ghost use Rattle.elf_image.specs.File.{granule_of, granule_address};
+ghost use Rattle.run_laws.specs.Moments.{moments};
 ghost use Rattle.run_laws.specs.Faithful.{AtOnce, needs_slot};
 ghost use Rattle.run_laws.specs.Lawful.{IsLawful};
 ghost use Rattle.run_laws.specs.Reports.{kept_of};
 ghost use Rattle.machine_laws.specs.Machine.{bare_of};
 ghost use Rattle.report_laws.specs.Sound.{IsSound};
+ghost use Rattle.report_laws.specs.Awaited.{Awaited, HasOwner, IsRestorable};
 ghost use Rattle.whole_runs.specs.Run.{IsRun, kept_in};
 ghost use Rattle.turn_orders.specs.Machine.{State};
 ghost use Rattle.turn_orders.specs.LineUp.{Stamped};
@@ -32,7 +34,7 @@ ghost use Rattle.shared_table.specs.Past.{Past};
 ghost use Rattle.placed_detector.specs.Standing.{Hand};
 ghost use Rattle.hart_parts.specs.Rounds.{PartRound};
 ghost use Rattle.part_runs.specs.Runs.{entries_of_rounds, AreRounds, AreAllRounds};
-ghost use Rattle.part_runs.specs.Told.{RoundReports, AreToldRounds, all_told};
+ghost use Rattle.part_runs.specs.Told.{AwaitRoundEnd, RoundReports, AreToldRounds, all_told};
 
 /// The entries of rounds so far have what the laws of reports ask for.
 pub fn sound_law()
@@ -47,6 +49,19 @@ pub fn lawful_law()
     ensures { (file : List ℕ) (limits : Limits) (lay : Layout) (past : Past) (m : State (Stamped Hand) Object) (rs : List PartRound)
         (plan : List Turn) (closed : DeskState) (last : LastState) → AreAllRounds file limits lay past m rs closed last →
         (l : IsLawful AtOnce limits plan (bare_of file limits.harts) (granule_of file) (entries_of_rounds rs)) × (l.last ≡ last) }
+{}
+
+/// At the end of a round each access that awaits it has a word whose label is a thread's, and of the present era; and it can be sought
+/// in the trace of that thread, whatever the trace holds.
+pub fn owned_law()
+    ensures owners { (file : List ℕ) (limits : Limits) (lay : Layout) (past : Past) (m : State (Stamped Hand) Object) (rs : List PartRound)
+        (r : PartRound) → AreRounds file limits lay past m (rs ++ r ∷ []) →
+        (awaited : List Awaited) → AwaitRoundEnd limits (entries_of_rounds rs) r.entries awaited →
+        All (HasOwner limits.epochs (moments (entries_of_rounds rs ++ r.entries))) awaited }
+    ensures restorable { (file : List ℕ) (limits : Limits) (lay : Layout) (past : Past) (m : State (Stamped Hand) Object) (rs : List PartRound)
+        (r : PartRound) → AreRounds file limits lay past m (rs ++ r ∷ []) →
+        (awaited : List Awaited) → AwaitRoundEnd limits (entries_of_rounds rs) r.entries awaited →
+        All (IsRestorable limits (granule_of file) (granule_address file) (moments (entries_of_rounds rs ++ r.entries))) awaited }
 {}
 
 /// Where at each round's end reports were told of the accesses that awaited it, and all were offered one after another by the rules
