@@ -2,3 +2,4 @@ pub mod Sound
 pub mod Firsts
 pub mod Found
 pub mod Owned
+pub mod Ends

@@ -113,7 +113,7 @@ none_found : (g : ℕ) (h : List Moment) (n t : ℕ) (l : Check × ℕ) → (mom
 none_found g h n t l none some = let z : first_race g h n t ≡ None = rw none refl in cc
 
 -- nothing is collected there
-none_collected : (g : ℕ) (h : List Moment) (from n : ℕ) (ws : List Awaited) → Collects g h from n ws →
+pub none_collected : (g : ℕ) (h : List Moment) (from n : ℕ) (ws : List Awaited) → Collects g h from n ws →
     ((k : ℕ) → from ≤ k → k < n → (moment_at h k).checks ≡ []) → (ws ≡ []) × (from ≤ n)
 none_collected g h from _ _ Begin quiet = (refl, omega arith)
 none_collected g h from _ _ (Unchecked {n = n} {waiting = ws} c none) quiet =

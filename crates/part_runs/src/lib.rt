@@ -34,6 +34,9 @@ ghost use Rattle.shared_table.specs.Past.{Past};
 ghost use Rattle.placed_detector.specs.Standing.{Hand};
 ghost use Rattle.hart_parts.specs.Rounds.{PartRound};
 ghost use Rattle.part_runs.specs.Runs.{entries_of_rounds, AreRounds, AreAllRounds};
+ghost use Rattle.whole_parts.specs.Dues.{HasDesk};
+ghost use Rattle.bare_machine.specs.Step.{desk};
+ghost use Rattle.part_runs.specs.Ends.{at_end, IsTellable};
 ghost use Rattle.part_runs.specs.Told.{AwaitRoundEnd, RoundReports, AreToldRounds, all_told};
 
 /// The entries of rounds so far have what the laws of reports ask for.
@@ -62,6 +65,14 @@ pub fn owned_law()
         (r : PartRound) → AreRounds file limits lay past m (rs ++ r ∷ []) →
         (awaited : List Awaited) → AwaitRoundEnd limits (entries_of_rounds rs) r.entries awaited →
         All (IsRestorable limits (granule_of file) (granule_address file) (moments (entries_of_rounds rs ++ r.entries))) awaited }
+{}
+
+/// At the end of a round the desk names the owner of each access that awaits it, and what the owner's trace tells is to be reported.
+pub fn told_law()
+    ensures { (file : List ℕ) (limits : Limits) (lay : Layout) (past : Past) (m : State (Stamped Hand) Object) (rs : List PartRound)
+        (r : PartRound) (d : DeskState) → AreRounds file limits lay past m (rs ++ r ∷ []) → HasDesk ((at_end m rs r).value desk) d →
+        (awaited : List Awaited) → AwaitRoundEnd limits (entries_of_rounds rs) r.entries awaited →
+        All (IsTellable file limits (moments (entries_of_rounds rs ++ r.entries)) (at_end m rs r) d.desk) awaited }
 {}
 
 /// Where at each round's end reports were told of the accesses that awaited it, and all were offered one after another by the rules
