@@ -3,3 +3,4 @@ pub mod Firsts
 pub mod Found
 pub mod Owned
 pub mod Ends
+pub mod Next

@@ -11,12 +11,12 @@
 //! above makes rounds, cites `owned_law` at the end of each, and `run_law` when the run is over.
 #![tactic(auto)]
 
-ghost use Rattle.std.specs.Prelude.{◌≡◌, ℕ, Bool, List, [], ◌∷◌, ◌++◌, Option, All};
+ghost use Rattle.std.specs.Prelude.{◌≡◌, ℕ, ◌+◌, ◌-◌, if◌then◌else◌, Bool, List, [], ◌∷◌, ◌++◌, Option, All, Ok};
 ghost use Rattle.run_record.specs.declared.limits.Limits.{Limits};
 ghost use Rattle.run_record.specs.declared.finished.LastState.{LastState};
 ghost use Rattle.run_record.specs.declared.plan.Turn.{Turn};
 ghost use Rattle.run_record.specs.declared.finished.Finished.{Finished};
-ghost use Rattle.elf_image.specs.File.{granule_of, granule_address};
+ghost use Rattle.elf_image.specs.File.{image_of, granule_of, granule_address};
 ghost use Rattle.run_laws.specs.Moments.{moments};
 ghost use Rattle.run_laws.specs.Faithful.{AtOnce, needs_slot};
 ghost use Rattle.run_laws.specs.Lawful.{IsLawful};
@@ -30,14 +30,53 @@ ghost use Rattle.turn_orders.specs.LineUp.{Stamped};
 ghost use Rattle.shared_table.specs.declared.object.DeskState.{DeskState};
 ghost use Rattle.shared_table.specs.declared.object.Object.{Object};
 ghost use Rattle.shared_table.specs.declared.view.Layout.{Layout};
-ghost use Rattle.shared_table.specs.Past.{Past};
+ghost use Rattle.shared_table.specs.Past.{Past, Lawful};
+ghost use Rattle.table_deeds.specs.Objects.{AreFirstObjects};
+ghost use Rattle.table_deeds.specs.Rounds.{last_stamp};
+ghost use Rattle.cell_loads.specs.Pasts.{AreQuiet};
+ghost use Rattle.run_laws.specs.Rounds.{steps_in};
 ghost use Rattle.placed_detector.specs.Standing.{Hand};
-ghost use Rattle.hart_parts.specs.Rounds.{PartRound};
-ghost use Rattle.part_runs.specs.Runs.{entries_of_rounds, AreRounds, AreAllRounds};
-ghost use Rattle.whole_parts.specs.Dues.{HasDesk};
+ghost use Rattle.hart_parts.specs.Rounds.{PartRound, table_round};
+ghost use Rattle.part_runs.specs.Next.{next_era, next_base, past_through, IsNextRound};
+ghost use Rattle.part_runs.specs.Runs.{entries_of_rounds, AreRoundLimits, AreRounds, AreAllRounds};
+ghost use Rattle.whole_parts.specs.Dues.{HasDesk, IsDueRound, AreDueRounds, state_after_rounds, remaining_after, era_of_last};
 ghost use Rattle.bare_machine.specs.Step.{desk};
 ghost use Rattle.part_runs.specs.Ends.{at_end, IsTellable};
-ghost use Rattle.part_runs.specs.Told.{AwaitRoundEnd, RoundReports, AreToldRounds, all_told};
+ghost use Rattle.part_runs.specs.Told.{AwaitRoundEnd, RoundReports, IsToldRound, AreToldRounds, all_told};
+
+/// Rounds are made one after another: before the first there are none, one more comes next, and steps behind the last one that are at no
+/// cell change nothing. So it is of what was due, and of the reports that were told.
+pub fn next_law()
+    ensures first { (file : List ℕ) (limits : Limits) (lay : Layout) (past : Past) (m : State (Stamped Hand) Object) →
+        AreRoundLimits limits → image_of file ≡ Ok file → AreFirstObjects file limits m → Lawful lay past → AreQuiet past →
+        AreRounds file limits lay past m [] }
+    ensures next { (file : List ℕ) (limits : Limits) (lay : Layout) (past : Past) (m : State (Stamped Hand) Object) (rs : List PartRound)
+        (r : PartRound) → AreRounds file limits lay past m rs → IsNextRound file limits lay m rs r →
+        AreRounds file limits lay (r.late ++ r.early) m (rs ++ r ∷ []) }
+    ensures between { (file : List ℕ) (limits : Limits) (lay : Layout) (between past : Past) (m : State (Stamped Hand) Object)
+        (rs : List PartRound) → AreRounds file limits lay past m rs → AreQuiet between → Lawful lay (between ++ past) →
+        AreRounds file limits lay (between ++ past) m rs }
+    ensures dues { (limits : Limits) (m : State (Stamped Hand) Object) (rs : List PartRound) (r : PartRound) →
+        AreDueRounds limits limits.steps m rs → IsDueRound limits (remaining_after limits.steps rs) (state_after_rounds m rs) r →
+        AreDueRounds limits limits.steps m (rs ++ r ∷ []) }
+    ensures told { (file : List ℕ) (limits : Limits) (rs : List PartRound) (ts : List RoundReports) (r : PartRound) (x : RoundReports) →
+        AreToldRounds file limits [] rs ts → IsToldRound file limits (entries_of_rounds rs) r.entries x →
+        AreToldRounds file limits [] (rs ++ r ∷ []) (ts ++ x ∷ []) }
+{}
+
+/// What comes after one round more: the state and the past that it left, its entries behind those before, and the numbers.
+pub fn after_law()
+    ensures state { (m : State (Stamped Hand) Object) (rs : List PartRound) (r : PartRound) → state_after_rounds m (rs ++ r ∷ []) ≡ r.next }
+    ensures past { (rs : List PartRound) (r : PartRound) → past_through [] (rs ++ r ∷ []) ≡ r.late ++ r.early }
+    ensures entries { (rs : List PartRound) (r : PartRound) → entries_of_rounds (rs ++ r ∷ []) ≡ entries_of_rounds rs ++ r.entries }
+    ensures era { (rs : List PartRound) (r : PartRound) →
+        next_era 0 (rs ++ r ∷ []) ≡ (if r.ends then next_era 0 rs + 1 else next_era 0 rs) }
+    ensures last_era { (rs : List PartRound) (r : PartRound) → era_of_last 0 0 (rs ++ r ∷ []) ≡ next_era 0 rs }
+    ensures base { (m : State (Stamped Hand) Object) (rs : List PartRound) (r : PartRound) →
+        next_base 0 m (rs ++ r ∷ []) ≡ last_stamp (table_round (state_after_rounds m rs) r) }
+    ensures remaining { (limits : Limits) (rs : List PartRound) (r : PartRound) →
+        remaining_after limits.steps (rs ++ r ∷ []) ≡ remaining_after limits.steps rs - steps_in r.entries }
+{}
 
 /// The entries of rounds so far have what the laws of reports ask for.
 pub fn sound_law()
