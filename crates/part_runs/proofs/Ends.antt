@@ -253,7 +253,7 @@ module _ (file : List ℕ) (limits : Limits) (s : Objects file limits) (d : Desk
       let each = all_of_each (IsIn round era) (e ∷ es) inside in
       let alike = subst (AreAlike stood.history) (no_era_since round era before e es (λ i x l. (each i x l).era)) stood.alike in
       λ i x l. tellable file limits s d round era (before ++ e ∷ es) stood (moments (before ++ e ∷ es)) alike has (get_or awaited i x) (owners i x l)
-          (restorable i x l)
+      (restorable i x l)
 
 module _ (file : List ℕ) (limits : Limits) (ok : image_of file ≡ Ok file) (lay : Layout) where
   -- how the last of some rounds ends
@@ -291,6 +291,6 @@ pub all_tellable : (file : List ℕ) (limits : Limits) (lay : Layout) (past : ta
     All (IsTellable file limits (moments (entries_of_rounds rs ++ r.entries)) (at_end m rs r) d.desk) awaited
 all_tellable file limits lay past m rs r d all has awaited awaits =
     let c = closes file limits all.accepted lay rs r 0 0 0 m []
-        (first_stood file limits (held_at file limits m) all.limits_are.watcher (first_kept file limits m all.first)) all.parts in
+    (first_stood file limits (held_at file limits m) all.limits_are.watcher (first_kept file limits m all.first)) all.parts in
     tellable_all file limits (at_end m rs r) d has (entries_of_rounds rs) c.round c.era awaited r.entries c.stood c.inside awaits
     (owned file limits lay past m rs r all awaited awaits) (sought file limits lay past m rs r all awaited awaits)

@@ -85,9 +85,9 @@ module _ (file : List ℕ) (limits : Limits) (lay : Layout) (past : Past) (m : S
       let more = found_next xs y ys t found all told.0 f in
       let then = append_assoc xs (y ∷ []) ys in
       let rest = found_all ys (xs ++ y ∷ []) ts (found ++ t.told)
-          (subst (AreRounds file limits lay past m) (sym then) all)
-          (subst (λ (es : List Entry). AreToldRounds file limits es ys ts) (sym (entries_then xs y)) told.1)
-          (subst (λ (es : List Entry). FindsAll file limits es (found ++ t.told)) (sym (entries_then xs y)) more)
+      (subst (AreRounds file limits lay past m) (sym then) all)
+      (subst (λ (es : List Entry). AreToldRounds file limits es ys ts) (sym (entries_then xs y)) told.1)
+      (subst (λ (es : List Entry). FindsAll file limits es (found ++ t.told)) (sym (entries_then xs y)) more)
       in
       subst (λ (zs : List PartRound). FindsAll file limits (entries_of_rounds zs) (found ++ all_told (t ∷ ts))) then
       (subst (FindsAll file limits (entries_of_rounds ((xs ++ y ∷ []) ++ ys))) (append_assoc found t.told (all_told ts)) rest)
@@ -111,11 +111,11 @@ few_found limits address_of h _ _ (Race {n = n} {found = found} check word repor
 module _ (meets : Option (List ℕ) → Option (List ℕ) → Bool) where
   one_offer : (k : Kept) (r : Report) → offers (kept_after meets k r) ≡ suc (offers k)
   one_offer k r = elim (cases_Bool (meets r.mine.stack r.previous.stack)) [
-      inl met ↦ (rw met (omega arith))
+    | inl met ↦ (rw met (omega arith))
     | inr unmet ↦ (elim (cases_Bool (list_any (is_equal r) k.reports)) [
-          inl equal ↦ (rw (unmet, equal) (omega arith))
-        | inr other ↦ (rw (unmet, other) (omega (arith, length-append k.reports (r ∷ []))))
-      ])
+      | inl equal ↦ (rw (unmet, equal) (omega arith))
+      | inr other ↦ (rw (unmet, other) (omega (arith, length-append k.reports (r ∷ []))))
+    ])
   ]
 
   all_offers : (rs : List Report) (k : Kept) → offers (fold (kept_after meets) k rs) ≡ offers k + length rs

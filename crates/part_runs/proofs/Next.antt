@@ -99,9 +99,11 @@ module _ (file : List ℕ) (limits : Limits) (lay : Layout) where
 
   still_quiet : (between past before : Past) (m : State (Stamped Hand) Object) (rs : List PartRound) → AreQuiet between → ArePasts limits past before m rs →
       ArePasts limits (between ++ past) before m rs
-  still_quiet between past before m [] quiet are =
-      (between ++ are.0, each_append (λ (x : ℕ × Item). TouchesNone x.1) between are.0 quiet are.1,
-        ap (λ (p : Past). between ++ p) are.2 ∙ sym (append_assoc between are.0 before))
+  still_quiet between past before m [] quiet are = (
+    between ++ are.0,
+    each_append (λ (x : ℕ × Item). TouchesNone x.1) between are.0 quiet are.1,
+    ap (λ (p : Past). between ++ p) are.2 ∙ sym (append_assoc between are.0 before),
+  )
   still_quiet between past before m (x ∷ xs) quiet are = (are.0, still_quiet between past (x.late ++ x.early) x.next xs quiet are.1)
 
   -- steps behind them that are at no cell change nothing
@@ -121,9 +123,11 @@ pub told_then : (file : List ℕ) (limits : Limits) (rs : List PartRound) (ts : 
     AreToldRounds file limits before rs ts → IsToldRound file limits (before ++ entries_of_rounds rs) r.entries x →
     AreToldRounds file limits before (rs ++ r ∷ []) (ts ++ x ∷ [])
 told_then file limits [] [] r x before told one = (subst (λ (es : List Entry). IsToldRound file limits es r.entries x) (append-nil before) one, record {})
-told_then file limits (y ∷ ys) (t ∷ ts) r x before told one =
-    (told.0, told_then file limits ys ts r x (before ++ y.entries) told.1
-      (subst (λ (es : List Entry). IsToldRound file limits es r.entries x) (sym (append_assoc before y.entries (entries_of_rounds ys))) one))
+told_then file limits (y ∷ ys) (t ∷ ts) r x before told one = (
+  told.0,
+  told_then file limits ys ts r x (before ++ y.entries) told.1
+      (subst (λ (es : List Entry). IsToldRound file limits es r.entries x) (sym (append_assoc before y.entries (entries_of_rounds ys))) one),
+)
 told_then file limits [] (t ∷ ts) r x before told one = absurd told
 told_then file limits (y ∷ ys) [] r x before told one = absurd told
 

@@ -137,16 +137,16 @@ module _ (g : ℕ) (h : List Moment) (from start : ℕ) (quiet : (k : ℕ) → f
   collected_later : (n : ℕ) (ws : List Awaited) → Collects g h from n ws → from ≤ start → start ≤ n → Collects g h start n ws
   collected_later _ _ Begin l m = at_start from [] (omega (arith, l, m)) Begin
   collected_later _ _ (Unchecked {n = n} {waiting = ws} c none) l m = elim (cases_lt n start) [
-      inl less ↦ (at_start (suc n) ws (omega (arith, less, m)) (Unchecked c none))
+    | inl less ↦ (at_start (suc n) ws (omega (arith, less, m)) (Unchecked c none))
     | inr more ↦ (Unchecked (collected_later n ws c l more) none)
   ]
   collected_later _ _ (Ordered {n = n} {waiting = ws} t a c made none) l m = elim (cases_lt n start) [
-      inl less ↦ (at_start (suc n) ws (omega (arith, less, m)) (Ordered t a c made none))
+    | inl less ↦ (at_start (suc n) ws (omega (arith, less, m)) (Ordered t a c made none))
     | inr more ↦ (Ordered t a (collected_later n ws c l more) made none)
   ]
   collected_later _ _ (Unordered {n = n} {waiting = ws} check word t a c made some) l m = elim (cases_lt n start) [
-      inl less ↦ (at_start (suc n) (ws ++ record { mine = told_side h n t a; granule = check.granule; word = word } ∷ []) (omega (arith, less, m))
-      (Unordered check word t a c made some))
+    | inl less ↦ (at_start (suc n) (ws ++ record { mine = told_side h n t a; granule = check.granule; word = word } ∷ []) (omega (arith, less, m))
+        (Unordered check word t a c made some))
     | inr more ↦ (Unordered check word t a (collected_later n ws c l more) made some)
   ]
 
