@@ -144,7 +144,7 @@ last_after era [] a = refl
 last_after era (e ∷ es) a =
     ap (λ (r : ℕ). era_after r es) (All-head (λ (e : Entry). e.era ≡ era) e es a) ∙ last_after era es (All-tail (λ (e : Entry). e.era ≡ era) e es a)
 
-no_era_since : (round era : ℕ) (before : List Entry) (e : Entry) (es : List Entry) → All (λ (e : Entry). e.era ≡ era) (e ∷ es) →
+pub no_era_since : (round era : ℕ) (before : List Entry) (e : Entry) (es : List Entry) → All (λ (e : Entry). e.era ≡ era) (e ∷ es) →
     moments_in round era (before ++ e ∷ es) ≡ moments (before ++ e ∷ es)
 no_era_since round era before e es all =
     let xs = before ++ e ∷ es in

@@ -4,3 +4,4 @@ pub mod Found
 pub mod Owned
 pub mod Ends
 pub mod Next
+pub mod Awaits

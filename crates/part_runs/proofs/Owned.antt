@@ -77,10 +77,10 @@ module _ (round era : ℕ) (entries : List Entry) (e : Entry) (es : List Entry) 
   of_era = λ i d l. (now i d l).1
 
   -- the moments of the round, but for the eras that begin before
-  abbrev in_round : List Moment
+  abbrev pub in_round : List Moment
   in_round = entry_moments (length entries) e ++ moments_from era (length entries + 1) es
 
-  cut : moments (entries ++ e ∷ es) ≡ moments_in round era entries ++ in_round
+  pub cut : moments (entries ++ e ∷ es) ≡ moments_in round era entries ++ in_round
   cut =
       moments_from-append 0 0 entries (e ∷ es)
       ∙ (ap (λ (i : ℕ). moments entries ++ moments_from (last_era entries) i (e ∷ es)) (zero-add (length entries))
@@ -98,7 +98,7 @@ module _ (round era : ℕ) (entries : List Entry) (e : Entry) (es : List Entry) 
 -- ---- where nothing is checked
 
 -- the beginnings of eras have no checks
-eras_unchecked : (round era : ℕ) (entries : List Entry) (rest : List Moment) (k : ℕ) → length (moments entries) ≤ k →
+pub eras_unchecked : (round era : ℕ) (entries : List Entry) (rest : List Moment) (k : ℕ) → length (moments entries) ≤ k →
     k < length (moments_in round era entries) → (moment_at (moments_in round era entries ++ rest) k).checks ≡ []
 eras_unchecked round era entries rest k l m =
     let none : Moment = record { entry = 0; round = 0; item = NoItem; checks = [] } in

@@ -11,19 +11,19 @@
 //! above makes rounds, cites `owned_law` at the end of each, and `run_law` when the run is over.
 #![tactic(auto)]
 
-ghost use Rattle.std.specs.Prelude.{◌≡◌, ℕ, ◌+◌, ◌-◌, if◌then◌else◌, Bool, List, [], ◌∷◌, ◌++◌, Option, All, Ok};
+ghost use Rattle.std.specs.Prelude.{◌≡◌, ℕ, ◌+◌, ◌-◌, if◌then◌else◌, Bool, List, [], ◌∷◌, ◌++◌, length, Option, All, Ok};
 ghost use Rattle.run_record.specs.declared.limits.Limits.{Limits};
 ghost use Rattle.run_record.specs.declared.finished.LastState.{LastState};
 ghost use Rattle.run_record.specs.declared.plan.Turn.{Turn};
 ghost use Rattle.run_record.specs.declared.finished.Finished.{Finished};
 ghost use Rattle.elf_image.specs.File.{image_of, granule_of, granule_address};
-ghost use Rattle.run_laws.specs.Moments.{moments};
+ghost use Rattle.run_laws.specs.Moments.{moments, moments_in};
 ghost use Rattle.run_laws.specs.Faithful.{AtOnce, needs_slot};
 ghost use Rattle.run_laws.specs.Lawful.{IsLawful};
 ghost use Rattle.run_laws.specs.Reports.{kept_of};
 ghost use Rattle.machine_laws.specs.Machine.{bare_of};
 ghost use Rattle.report_laws.specs.Sound.{IsSound};
-ghost use Rattle.report_laws.specs.Awaited.{Awaited, HasOwner, IsRestorable};
+ghost use Rattle.report_laws.specs.Awaited.{Awaited, Collects, HasOwner, IsRestorable};
 ghost use Rattle.whole_runs.specs.Run.{IsRun, kept_in};
 ghost use Rattle.turn_orders.specs.Machine.{State};
 ghost use Rattle.turn_orders.specs.LineUp.{Stamped};
@@ -91,6 +91,17 @@ pub fn lawful_law()
     ensures { (file : List ℕ) (limits : Limits) (lay : Layout) (past : Past) (m : State (Stamped Hand) Object) (rs : List PartRound)
         (plan : List Turn) (closed : DeskState) (last : LastState) → AreAllRounds file limits lay past m rs closed last →
         (l : IsLawful AtOnce limits plan (bare_of file limits.harts) (granule_of file) (entries_of_rounds rs)) × (l.last ≡ last) }
+{}
+
+/// What is collected from where a round begins, with the eras that begin before it, up to its end awaits that end, also where the round
+/// has no entries.
+pub fn awaits_law()
+    ensures { (file : List ℕ) (limits : Limits) (lay : Layout) (past : Past) (m : State (Stamped Hand) Object) (rs : List PartRound)
+        (r : PartRound) (awaited : List Awaited) → AreRounds file limits lay past m (rs ++ r ∷ []) →
+        let before = entries_of_rounds rs in
+        let h = moments_in (length rs) (next_era 0 rs) (before ++ r.entries) in
+        Collects limits.epochs h (length (moments_in (length rs) (next_era 0 rs) before)) (length h) awaited →
+        AwaitRoundEnd limits before r.entries awaited }
 {}
 
 /// At the end of a round each access that awaits it has a word whose label is a thread's, and of the present era; and it can be sought
