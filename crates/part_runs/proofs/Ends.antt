@@ -1,6 +1,6 @@
 -- At a round's end what awaits can be told, by the desk and the traces of threads.
-use Rattle.std.proofs.Common.{◌≡◌, ◌≢◌, ℕ, zero, suc, ◌+◌, ◌-◌, ◌<◌, ◌≤◌, inl, inr, Bool, true, false, cond, Option, Some, None, Ok, List, [], ◌∷◌, ◌++◌, append_assoc, length, get_or, refl, sym, ap, subst, ◌∙◌, arith, eq-eqb, ne_eqb}
-use Rattle.std.specs.Prelude.{All, replicate, IsSome}
+use Rattle.std.proofs.Common.{◌≡◌, ◌≢◌, ℕ, zero, suc, ◌+◌, ◌-◌, ◌<◌, ◌≤◌, inl, inr, Bool, true, false, cond, Some, Ok, List, [], ◌∷◌, ◌++◌, append_assoc, length, get_or, refl, sym, ap, subst, ◌∙◌, arith, eq-eqb, ne_eqb}
+use Rattle.std.specs.Prelude.{All, replicate}
 use Rattle.std.proofs.lemmas.Bool.{cases_eq}
 use Rattle.std.proofs.lemmas.List.{append-nil}
 use Rattle.std.proofs.lemmas.List.Elements.{All-nil, All-head, All-tail}
@@ -8,27 +8,24 @@ use Rattle.std.proofs.lemmas.List.Sums.{fold-append}
 use Rattle.run_record.specs.declared.entry.Entry.{Entry}
 use Rattle.run_record.specs.declared.entry.DeskNote.TheVariants.{Nothing, Attach, Leave}
 use Rattle.run_record.specs.declared.limits.Limits.{Limits}
-use Rattle.run_record.specs.declared.report.Side.{Side}
 use Rattle.elf_image.specs.File.{image_of, granule_of, granule_address}
 use Rattle.run_laws.specs.Moments.{Item, Does, Notes, NewEra, Past, Moment, items, moments, moments_in, last_era}
 use Rattle.run_laws.specs.Labels.{Labels, labels, next_labels, can_attach, attach_labels}
 use Rattle.run_laws.specs.Window.{TraceEvent, traced_by, trace_before}
 use Rattle.run_laws.specs.Words.{mask, sid, epoch, label_in}
-use Rattle.run_laws.specs.Present.{trace_now}
 use Rattle.run_laws.proofs.MomentsLaw.{era_after}
 use Rattle.run_laws.proofs.SlotSteps.{slot_kept, attach_slot_here, attach_slot_other, attach_epoch_here, attach_epoch_grows}
 use Rattle.turn_laws.specs.Going.{AreAlike}
 use Rattle.turn_laws.proofs.AlikeLaw.{trace-alike}
 use Rattle.shadow_word.specs.Cells.{cell_in, fields_of}
-use Rattle.slot_desk.specs.Desks.{DeskContents, slot_of, owner_at}
+use Rattle.slot_desk.specs.Desks.{slot_of, owner_at}
 use Rattle.slot_desk.specs.History.{IsDeskAt}
 use Rattle.slot_desk.proofs.HistoryLaw.{at_agrees}
-use Rattle.trace_parts.specs.Held.{HeldTrace, Holds, has_label}
-use Rattle.trace_parts.specs.Sought.{first_held}
+use Rattle.trace_parts.specs.Held.{Holds}
 use Rattle.race_core.specs.History.{IsWatcherAt}
 use Rattle.report_laws.specs.Owners.{IsLabelOf, IsTraceOf}
-use Rattle.report_laws.specs.Awaited.{Awaited, HasOwner, IsRestorable, IsToldBy}
-use Rattle.detector.specs.Told.{IsOwnedBy, HasOwnerAt, CanBeSought, side_in}
+use Rattle.report_laws.specs.Awaited.{Awaited, HasOwner, IsRestorable}
+use Rattle.detector.specs.Told.{IsOwnedBy, CanBeSought}
 use Rattle.bare_machine.specs.Step.{desk}
 use Rattle.turn_orders.specs.Lists.{Each}
 use Rattle.turn_orders.specs.Machine.{State}
@@ -45,7 +42,7 @@ use Rattle.table_deeds.specs.Rounds.{last_stamp}
 use Rattle.table_deeds.proofs.First.{first_kept}
 use Rattle.hart_parts.specs.Rounds.{PartRound, table_round, ArePartRounds}
 use Rattle.hart_parts.proofs.Rounds.{round_is}
-use Rattle.whole_parts.specs.Dues.{HasDesk, state_after_rounds}
+use Rattle.whole_parts.specs.Dues.{HasDesk}
 use Rattle.whole_parts.proofs.Dues.{all_of_each}
 use Rattle.whole_parts.proofs.Standing.{Stood, first_stood}
 use Rattle.whole_parts.proofs.Listed.{Objects, after_all, at_next}

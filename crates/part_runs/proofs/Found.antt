@@ -1,11 +1,10 @@
 -- The reports that are told at rounds' ends are found.
-use Rattle.std.proofs.Common.{◌≡◌, ℕ, zero, suc, ◌+◌, ◌-◌, ◌≤◌, inl, inr, Bool, true, false, Option, List, [], ◌∷◌, ◌++◌, length, length-append, append_assoc, zero-add, subst, sym, refl, ap, ◌∙◌, arith}
-use Rattle.std.specs.Prelude.{All, fold, replicate}
-use Rattle.std.specs.List.{AllZip, list_any}
+use Rattle.std.proofs.Common.{◌≡◌, ℕ, suc, ◌+◌, ◌-◌, ◌≤◌, inl, inr, Bool, Option, List, [], ◌∷◌, ◌++◌, length, length-append, append_assoc, zero-add, subst, sym, ap, ◌∙◌, arith}
+use Rattle.std.specs.Prelude.{fold, replicate}
+use Rattle.std.specs.List.{list_any}
 use Rattle.std.proofs.lemmas.Bool.{cases_Bool}
 use Rattle.std.proofs.lemmas.List.{append-nil}
 use Rattle.run_record.specs.declared.entry.Entry.{Entry}
-use Rattle.run_record.specs.declared.entry.Check.{Check}
 use Rattle.run_record.specs.declared.limits.Limits.{Limits}
 use Rattle.run_record.specs.declared.report.Report.{Report}
 use Rattle.run_record.specs.declared.plan.Turn.{Turn}
@@ -16,7 +15,6 @@ use Rattle.run_laws.specs.Faithful.{AtOnce, needs_slot, state_after}
 use Rattle.run_laws.specs.Reports.{Finds, Start, Quiet, Race, Kept, kept_after, kept_of, is_equal}
 use Rattle.run_laws.proofs.MomentsLaw.{moments_from-append}
 use Rattle.machine_laws.specs.Machine.{bare_of}
-use Rattle.report_laws.specs.Sound.{IsSound}
 use Rattle.report_laws.proofs.NextRound.{round_found}
 use Rattle.report_text.specs.Offers.{offers}
 use Rattle.whole_runs.specs.Told.{Told}

@@ -20,7 +20,7 @@ use Rattle.run_laws.proofs.MomentsLaw.{moments_from-append}
 use Rattle.machine_laws.specs.Machine.{bare_of}
 use Rattle.race_core.specs.History.{era_now}
 use Rattle.thread_events.proofs.Longer.{era_stays}
-use Rattle.report_laws.specs.Sound.{IsSound, first_race, first_race_in}
+use Rattle.report_laws.specs.Sound.{IsSound, first_race}
 use Rattle.report_laws.specs.Awaited.{Awaited, Collects, Begin, Unchecked, Ordered, Unordered, HasOwner, IsRestorable}
 use Rattle.report_laws.proofs.NextRound.{round_owners, round_restorable}
 use Rattle.turn_orders.specs.Machine.{State}

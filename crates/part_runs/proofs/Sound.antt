@@ -1,6 +1,5 @@
 -- The entries of rounds so far are as lawful histories ask.
-use Rattle.std.proofs.Common.{◌≡◌, ℕ, ◌*◌, List, [], Ok, subst, sym, refl, arith}
-use Rattle.std.specs.Prelude.{map}
+use Rattle.std.proofs.Common.{◌≡◌, ℕ, ◌*◌, List, Ok, subst, refl, arith}
 use Rattle.run_record.specs.declared.entry.Entry.{Entry}
 use Rattle.run_record.specs.declared.limits.Limits.{Limits}
 use Rattle.run_record.specs.declared.plan.Turn.{Turn}
@@ -27,7 +26,7 @@ use Rattle.placed_detector.specs.Standing.{Hand}
 use Rattle.deed_histories.specs.Rounds.{FollowsRounds, listed_entries}
 use Rattle.deed_histories.proofs.Histories.{from_first}
 use Rattle.table_deeds.specs.Objects.{held_at}
-use Rattle.table_deeds.specs.Rounds.{AreKept, entries_by_round}
+use Rattle.table_deeds.specs.Rounds.{AreKept}
 use Rattle.table_deeds.proofs.First.{first_kept}
 use Rattle.table_deeds.proofs.Rounds.{all_rounds}
 use Rattle.hart_parts.specs.Rounds.{PartRound, table_rounds}
