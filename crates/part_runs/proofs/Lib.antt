@@ -5,3 +5,4 @@ pub mod Owned
 pub mod Ends
 pub mod Next
 pub mod Awaits
+pub mod Left

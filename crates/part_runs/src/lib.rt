@@ -25,14 +25,16 @@ ghost use Rattle.machine_laws.specs.Machine.{bare_of};
 ghost use Rattle.report_laws.specs.Sound.{IsSound};
 ghost use Rattle.report_laws.specs.Awaited.{Awaited, Collects, HasOwner, IsRestorable};
 ghost use Rattle.whole_runs.specs.Run.{IsRun, kept_in};
+ghost use Rattle.turn_orders.specs.Lists.{In};
 ghost use Rattle.turn_orders.specs.Machine.{State};
+ghost use Rattle.hart_parts.specs.Parts.{Part, left_in};
 ghost use Rattle.turn_orders.specs.LineUp.{Stamped};
 ghost use Rattle.shared_table.specs.declared.object.DeskState.{DeskState};
 ghost use Rattle.shared_table.specs.declared.object.Object.{Object};
 ghost use Rattle.shared_table.specs.declared.view.Layout.{Layout};
 ghost use Rattle.shared_table.specs.Past.{Past, Lawful};
 ghost use Rattle.table_deeds.specs.Objects.{AreFirstObjects};
-ghost use Rattle.table_deeds.specs.Rounds.{last_stamp};
+ghost use Rattle.table_deeds.specs.Rounds.{last_stamp, HasObjects};
 ghost use Rattle.cell_loads.specs.Pasts.{AreQuiet};
 ghost use Rattle.run_laws.specs.Rounds.{steps_in};
 ghost use Rattle.placed_detector.specs.Standing.{Hand};
@@ -115,6 +117,19 @@ pub fn owned_law()
         (r : PartRound) → AreRounds file limits lay past m (rs ++ r ∷ []) →
         (awaited : List Awaited) → AwaitRoundEnd limits (entries_of_rounds rs) r.entries awaited →
         All (IsRestorable limits (granule_of file) (granule_address file) (moments (entries_of_rounds rs ++ r.entries))) awaited }
+{}
+
+/// At the end of a round the table has the objects that its deeds left, the thread of each part has what its part left, and each other
+/// thread has what it had.
+pub fn ends_law()
+    ensures objects { (file : List ℕ) (limits : Limits) (lay : Layout) (past : Past) (m : State (Stamped Hand) Object) (rs : List PartRound)
+        (r : PartRound) → AreRounds file limits lay past m (rs ++ r ∷ []) → HasObjects lay (r.late ++ r.early) (at_end m rs r) }
+    ensures parts { (file : List ℕ) (limits : Limits) (lay : Layout) (past : Past) (m : State (Stamped Hand) Object) (rs : List PartRound)
+        (r : PartRound) (p : Part) → AreRounds file limits lay past m (rs ++ r ∷ []) → In p r.parts →
+        (at_end m rs r).local p.thread ≡ left_in p }
+    ensures others { (file : List ℕ) (limits : Limits) (lay : Layout) (past : Past) (m : State (Stamped Hand) Object) (rs : List PartRound)
+        (r : PartRound) (t : ℕ) → AreRounds file limits lay past m (rs ++ r ∷ []) → ((p : Part) → In p r.parts → p.thread ≡ t → ⊥) →
+        (at_end m rs r).local t ≡ (state_after_rounds m rs).local t }
 {}
 
 /// At the end of a round the desk names the owner of each access that awaits it, and what the owner's trace tells is to be reported.
