@@ -47,7 +47,8 @@ module _ (g : ℕ) (h : List Moment) (from : ℕ) where
 
 -- what is collected with the eras that begin before a round awaits its end
 await_end : (limits : Limits) (before part : List Entry) (round era : ℕ) (awaited : List Awaited) → Each (IsIn round era) part →
-    Collects limits.epochs (moments_in round era (before ++ part)) (length (moments_in round era before)) (length (moments_in round era (before ++ part))) awaited →
+    Collects limits.epochs (moments_in round era (before ++ part)) (length (moments_in round era before))
+    (length (moments_in round era (before ++ part))) awaited →
     AwaitRoundEnd limits before part awaited
 await_end limits before [] round era awaited inside c =
     let g = limits.epochs in

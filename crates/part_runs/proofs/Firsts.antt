@@ -67,8 +67,8 @@ pasts_first : (limits : Limits) (past : Past) (xs : List PartRound) (r : PartRou
 pasts_first limits past [] r ys before m are = (are.0, ([], record {}, refl))
 pasts_first limits past (x ∷ xs) r ys before m are = (are.0, pasts_first limits past xs r ys _ _ are.1)
 
-module _ (file : List ℕ) (limits : Limits) (lay : Layout) (past : Past) (m : State (Stamped Hand) Object) (xs : List PartRound) (r : PartRound) (ys : List PartRound)
-    (all : AreRounds file limits lay past m (xs ++ r ∷ ys)) where
+module _ (file : List ℕ) (limits : Limits) (lay : Layout) (past : Past) (m : State (Stamped Hand) Object) (xs : List PartRound) (r : PartRound)
+    (ys : List PartRound) (all : AreRounds file limits lay past m (xs ++ r ∷ ys)) where
   -- the first rounds are rounds so far
   pub so_far : AreRounds file limits lay (r.late ++ r.early) m (xs ++ r ∷ [])
   so_far = record {
@@ -81,6 +81,7 @@ module _ (file : List ℕ) (limits : Limits) (lay : Layout) (past : Past) (m : S
   }
 
   -- and their entries have what the laws of reports ask for
-  pub sound_so_far : IsSound limits (granule_of file) (needs_slot (bare_of file limits.harts) (entries_of_rounds xs ++ r.entries)) (entries_of_rounds xs ++ r.entries)
+  pub sound_so_far : IsSound limits (granule_of file) (needs_slot (bare_of file limits.harts) (entries_of_rounds xs ++ r.entries))
+      (entries_of_rounds xs ++ r.entries)
   sound_so_far = subst (λ (es : List Entry). IsSound limits (granule_of file) (needs_slot (bare_of file limits.harts) es) es) (entries_then xs r)
       (sound file limits lay (r.late ++ r.early) m (xs ++ r ∷ []) so_far)

@@ -1,9 +1,10 @@
 -- The reports that are told at rounds' ends are found.
-use Rattle.std.proofs.Common.{◌≡◌, ℕ, suc, ◌+◌, ◌-◌, ◌≤◌, inl, inr, Bool, Option, List, [], ◌∷◌, ◌++◌, length, length-append, append_assoc, zero-add, subst, sym, ap, ◌∙◌, arith}
+use Rattle.std.proofs.Common.{◌≡◌, ℕ, suc, ◌+◌, ◌-◌, ◌≤◌, inl, inr, Bool, Option, List, [], ◌∷◌, ◌++◌, length, length-append, append_assoc, zero-add, subst, sym, refl, ap, ◌∙◌, arith}
 use Rattle.std.specs.Prelude.{fold, replicate}
 use Rattle.std.specs.List.{list_any}
 use Rattle.std.proofs.lemmas.Bool.{cases_Bool}
 use Rattle.std.proofs.lemmas.List.{append-nil}
+use Rattle.std.proofs.lemmas.List.Sums.{fold-append}
 use Rattle.run_record.specs.declared.entry.Entry.{Entry}
 use Rattle.run_record.specs.declared.limits.Limits.{Limits}
 use Rattle.run_record.specs.declared.report.Report.{Report}
@@ -12,6 +13,7 @@ use Rattle.run_record.specs.declared.finished.Finished.{Finished}
 use Rattle.elf_image.specs.File.{granule_of, granule_address}
 use Rattle.run_laws.specs.Moments.{Moment, NewEra, moments, moments_from, moments_in, last_era}
 use Rattle.run_laws.specs.Faithful.{AtOnce, needs_slot, state_after}
+use Rattle.run_laws.specs.Lawful.{IsLawful, IsWholeRun}
 use Rattle.run_laws.specs.Reports.{Finds, Start, Quiet, Race, Kept, kept_after, kept_of, is_equal}
 use Rattle.run_laws.proofs.MomentsLaw.{moments_from-append}
 use Rattle.machine_laws.specs.Machine.{bare_of}
@@ -69,7 +71,8 @@ module _ (file : List ℕ) (limits : Limits) (lay : Layout) (past : Past) (m : S
       let earlier = inside_before file limits lay xs (r ∷ ys) 0 0 0 m all.parts in
       let awaits = told.awaits in
       let tells = told.tells in
-      round_found limits (granule_of file) (needs_slot (bare_of file limits.harts) (es ++ r.entries)) es r.entries (0 + length xs) (last_era es) (later_moments es r.entries)
+      round_found limits (granule_of file) (needs_slot (bare_of file limits.harts) (es ++ r.entries)) es r.entries (0 + length xs) (last_era es)
+      (later_moments es r.entries)
       (sound_so_far file limits lay past m xs r ys all) (cut_same (0 + length xs) es r.entries) (granule_address file) (addresses file all.accepted) earlier
       (λ i e l. (inside.1 i e l).0) found f x.awaited (rw (same_era (0 + length xs) es) awaits) x.told tells
 
@@ -122,23 +125,37 @@ module _ (meets : Option (List ℕ) → Option (List ℕ) → Bool) where
 
 -- ---- a run
 
+-- all reports of the rounds' entries were offered
+pub offered : (file : List ℕ) (limits : Limits) (lay : Layout) (past : Past) (m : State (Stamped Hand) Object) (rs : List PartRound)
+    (ts : List RoundReports) (meets : Option (List ℕ) → Option (List ℕ) → Bool) → AreRounds file limits lay past m rs →
+    AreToldRounds file limits [] rs ts → Told meets file limits (entries_of_rounds rs) (kept_of meets (all_told ts))
+offered file limits lay past m rs ts meets all told =
+    let finds = found_whole file limits lay past m rs ts all told in
+    let h = moments (entries_of_rounds rs) in
+    record {
+      found = all_told ts;
+      finds = finds;
+      kept = refl;
+      counted =
+          (let few = few_found limits (granule_address file) h (length h) (all_told ts) finds in
+          let n = all_offers meets (all_told ts) (record { reports = []; suppressed = 0; equal = 0 }) in
+          omega (arith, few, n));
+    }
+
+all_told_then : (ts : List RoundReports) (x : RoundReports) → all_told (ts ++ x ∷ []) ≡ all_told ts ++ x.told
+all_told_then [] x = append-nil x.told
+all_told_then (t ∷ ts) x = ap (λ (rs : List Report). t.told ++ rs) (all_told_then ts x) ∙ sym (append_assoc t.told (all_told ts) x.told)
+
+-- the reports of one round more are offered behind those before
+pub kept_then : (meets : Option (List ℕ) → Option (List ℕ) → Bool) (ts : List RoundReports) (x : RoundReports) →
+    kept_of meets (all_told (ts ++ x ∷ [])) ≡ fold (kept_after meets) (kept_of meets (all_told ts)) x.told
+kept_then meets ts x =
+    ap (kept_of meets) (all_told_then ts x)
+    ∙ fold-append (kept_after meets) (record { reports = []; suppressed = 0; equal = 0 }) (all_told ts) x.told
+
 module _ (file : List ℕ) (limits : Limits) (lay : Layout) (past : Past) (m : State (Stamped Hand) Object) (rs : List PartRound) (plan : List Turn)
     (closed : DeskState) (ts : List RoundReports) (meets : Option (List ℕ) → Option (List ℕ) → Bool) (f : Finished)
     (all : AreAllRounds file limits lay past m rs closed f.last) (told : AreToldRounds file limits [] rs ts) where
-  all_told_is : (k : Kept) → k ≡ kept_of meets (all_told ts) → Told meets file limits (entries_of_rounds rs) k
-  all_told_is k kept =
-      let finds = found_whole file limits lay past m rs ts all.rounds told in
-      record {
-        found = all_told ts;
-        finds = finds;
-        kept = kept;
-        counted =
-            (let few = few_found limits (granule_address file) (moments (entries_of_rounds rs)) (length (moments (entries_of_rounds rs))) (all_told ts) finds in
-            let n = all_offers meets (all_told ts) (record { reports = []; suppressed = 0; equal = 0 }) in
-            let q = ap offers kept in
-            omega (arith, few, n, q));
-      }
-
   pub run_of : f.history.entries ≡ entries_of_rounds rs → kept_in f ≡ kept_of meets (all_told ts) → f.output ≡ closed.machine.output →
       IsRun AtOnce file limits plan meets f
   run_of entries kept output =
@@ -147,9 +164,10 @@ module _ (file : List ℕ) (limits : Limits) (lay : Layout) (past : Past) (m : S
       let back = sym entries in
       let tells = tells_then file limits so.accepted lay m rs closed w so.first so.parts all.over.at_desk in
       is_run AtOnce file limits plan meets f w.few_slots so.limits_are.some_epochs w.few_epochs so.accepted
-      (subst (λ (es : List Entry). Rattle.run_laws.specs.Lawful.IsLawful AtOnce limits plan (bare_of file limits.harts) (granule_of file) es) back
+      (subst (λ (es : List Entry). IsLawful AtOnce limits plan (bare_of file limits.harts) (granule_of file) es) back
       (lawful file limits lay past m rs plan closed f.last all))
-      (subst (λ (es : List Entry). Rattle.run_laws.specs.Lawful.IsWholeRun AtOnce limits plan (bare_of file limits.harts) es f.last) back
+      (subst (λ (es : List Entry). IsWholeRun AtOnce limits plan (bare_of file limits.harts) es f.last) back
       (whole file limits so.accepted lay plan m rs w so.first so.parts all.dues closed f.last all.over))
-      (subst (λ (es : List Entry). Told meets file limits es (kept_in f)) back (all_told_is (kept_in f) kept))
+      (subst (λ (es : List Entry). Told meets file limits es (kept_in f)) back
+      (subst (Told meets file limits (entries_of_rounds rs)) (sym kept) (offered file limits lay past m rs ts meets so told)))
       (output ∙ (tells.output_is ∙ ap (λ (es : List Entry). (state_after (bare_of file limits.harts) es).output) back))

@@ -1,5 +1,5 @@
 -- What threads and the table have at a round's end.
-use Rattle.std.proofs.Common.{◌≡◌, ℕ, ◌+◌, ◌<◌, inl, inr, List, [], ◌∷◌, ◌++◌, length, sym, ap, ◌∙◌}
+use Rattle.std.proofs.Common.{◌≡◌, ℕ, inl, inr, List, [], ◌∷◌, ◌++◌, sym, ap, ◌∙◌}
 use Rattle.std.specs.Prelude.{Some}
 use Rattle.run_record.specs.declared.limits.Limits.{Limits}
 use Rattle.turn_orders.specs.Lists.{In}
@@ -11,7 +11,6 @@ use Rattle.shared_table.specs.Past.{Past}
 use Rattle.woven_turns.specs.Weave.{weave}
 use Rattle.woven_turns.proofs.Weaving.{place_all, value_after, thread_all}
 use Rattle.placed_detector.specs.Standing.{Hand}
-use Rattle.table_deeds.specs.Objects.{ObjectDeed}
 use Rattle.table_deeds.specs.Rounds.{TableRound, HasObjects, IsTableRound}
 use Rattle.table_deeds.proofs.Left.{local_left_is, value_left_is}
 use Rattle.hart_parts.specs.Parts.{Part, left_in}

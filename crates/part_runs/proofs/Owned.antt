@@ -84,8 +84,10 @@ module _ (round era : ℕ) (entries : List Entry) (e : Entry) (es : List Entry) 
   cut =
       moments_from-append 0 0 entries (e ∷ es)
       ∙ (ap (λ (i : ℕ). moments entries ++ moments_from (last_era entries) i (e ∷ es)) (zero-add (length entries))
-      ∙ (ap (λ (r : ℕ). moments entries ++ (era_moments (last_era entries) (length entries) r e.era ++ (entry_moments (length entries) e ++ moments_from e.era (length entries + 1) es))) first.0
-      ∙ (ap (λ (x : ℕ). moments entries ++ (era_moments (last_era entries) (length entries) round x ++ (entry_moments (length entries) e ++ moments_from x (length entries + 1) es))) first.1
+      ∙ (ap (λ (r : ℕ). moments entries ++ (era_moments (last_era entries) (length entries) r e.era
+      ++ (entry_moments (length entries) e ++ moments_from e.era (length entries + 1) es))) first.0
+      ∙ (ap (λ (x : ℕ). moments entries ++ (era_moments (last_era entries) (length entries) round x
+      ++ (entry_moments (length entries) e ++ moments_from x (length entries + 1) es))) first.1
       ∙ sym (append_assoc (moments entries) (era_moments (last_era entries) (length entries) round era) in_round))))
 
   in_one_era : All IsInEra in_round

@@ -11,7 +11,7 @@
 //! above makes rounds, cites `owned_law` at the end of each, and `run_law` when the run is over.
 #![tactic(auto)]
 
-ghost use Rattle.std.specs.Prelude.{◌≡◌, ℕ, ◌+◌, ◌-◌, if◌then◌else◌, Bool, List, [], ◌∷◌, ◌++◌, length, Option, All, Ok};
+ghost use Rattle.std.specs.Prelude.{◌≡◌, ℕ, ◌+◌, ◌-◌, if◌then◌else◌, Bool, List, [], ◌∷◌, ◌++◌, length, Option, All, Ok, fold};
 ghost use Rattle.run_record.specs.declared.limits.Limits.{Limits};
 ghost use Rattle.run_record.specs.declared.finished.LastState.{LastState};
 ghost use Rattle.run_record.specs.declared.plan.Turn.{Turn};
@@ -20,10 +20,11 @@ ghost use Rattle.elf_image.specs.File.{image_of, granule_of, granule_address};
 ghost use Rattle.run_laws.specs.Moments.{moments, moments_in};
 ghost use Rattle.run_laws.specs.Faithful.{AtOnce, needs_slot};
 ghost use Rattle.run_laws.specs.Lawful.{IsLawful};
-ghost use Rattle.run_laws.specs.Reports.{kept_of};
+ghost use Rattle.run_laws.specs.Reports.{kept_after, kept_of};
 ghost use Rattle.machine_laws.specs.Machine.{bare_of};
 ghost use Rattle.report_laws.specs.Sound.{IsSound};
 ghost use Rattle.report_laws.specs.Awaited.{Awaited, Collects, HasOwner, IsRestorable};
+ghost use Rattle.whole_runs.specs.Told.{Told};
 ghost use Rattle.whole_runs.specs.Run.{IsRun, kept_in};
 ghost use Rattle.turn_orders.specs.Lists.{In};
 ghost use Rattle.turn_orders.specs.Machine.{State};
@@ -78,6 +79,8 @@ pub fn after_law()
         next_base 0 m (rs ++ r ∷ []) ≡ last_stamp (table_round (state_after_rounds m rs) r) }
     ensures remaining { (limits : Limits) (rs : List PartRound) (r : PartRound) →
         remaining_after limits.steps (rs ++ r ∷ []) ≡ remaining_after limits.steps rs - steps_in r.entries }
+    ensures kept { (meets : Option (List ℕ) → Option (List ℕ) → Bool) (ts : List RoundReports) (x : RoundReports) →
+        kept_of meets (all_told (ts ++ x ∷ [])) ≡ fold (kept_after meets) (kept_of meets (all_told ts)) x.told }
 {}
 
 /// The entries of rounds so far have what the laws of reports ask for.
@@ -138,6 +141,15 @@ pub fn told_law()
         (r : PartRound) (d : DeskState) → AreRounds file limits lay past m (rs ++ r ∷ []) → HasDesk ((at_end m rs r).value desk) d →
         (awaited : List Awaited) → AwaitRoundEnd limits (entries_of_rounds rs) r.entries awaited →
         All (IsTellable file limits (moments (entries_of_rounds rs ++ r.entries)) (at_end m rs r) d.desk) awaited }
+{}
+
+/// Where at each round's end reports were told of the accesses that awaited it, these are the reports of the entries so far, and all were
+/// offered, by the rules that two stacks may meet. There are at most as many as moments.
+pub fn reports_law()
+    ensures { (file : List ℕ) (limits : Limits) (lay : Layout) (past : Past) (m : State (Stamped Hand) Object) (rs : List PartRound)
+        (ts : List RoundReports) (meets : Option (List ℕ) → Option (List ℕ) → Bool) →
+        AreRounds file limits lay past m rs → AreToldRounds file limits [] rs ts →
+        Told meets file limits (entries_of_rounds rs) (kept_of meets (all_told ts)) }
 {}
 
 /// Where at each round's end reports were told of the accesses that awaited it, and all were offered one after another by the rules

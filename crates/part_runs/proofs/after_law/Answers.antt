@@ -1,5 +1,6 @@
 use Rattle.std.proofs.Common.{[]}
 use Rattle.part_runs.proofs.Firsts.{entries_then}
+use Rattle.part_runs.proofs.Found.{kept_then}
 use Rattle.part_runs.proofs.Next.{state_then, past_then, era_then, last_then, base_then, remaining_then}
 use Rattle.part_runs.proofs.after_law.Goals as goal
 
@@ -23,3 +24,6 @@ returns-clause-base c = base_then 0
 
 pub returns-clause-remaining : goal.returns-clause-remaining
 returns-clause-remaining c limits = remaining_then limits.steps
+
+pub returns-clause-kept : goal.returns-clause-kept
+returns-clause-kept c = kept_then
