@@ -1,18 +1,16 @@
 -- The detector after each event that has no check.
-use Rattle.std.proofs.Common.{◌≡◌, ℕ, zero, suc, ◌+◌, ◌<◌, ◌⊎◌, ◌==◌, ◌&&◌, Bool, true, false, cond, Option, Some, None, List, [], ◌∷◌, ◌++◌, length, get_or, length-append, inl, inr, refl, ap, sym, subst, ◌∙◌, arith, eq-eqb, eqb-true, ne_eqb}
-use Rattle.std.specs.Prelude.{map, slice_set, slice_index, option_map}
+use Rattle.std.proofs.Common.{◌≡◌, ℕ, zero, suc, ◌+◌, ◌<◌, ◌⊎◌, ◌==◌, Bool, true, false, cond, Option, Some, None, List, [], ◌∷◌, ◌++◌, length, get_or, length-append, inl, inr, refl, ap, sym, subst, ◌∙◌, arith, eq-eqb, eqb-true, ne_eqb}
+use Rattle.std.specs.Prelude.{map, slice_set, slice_index}
 use Rattle.std.proofs.Math.ListN.{length-set}
 use Rattle.std.proofs.lemmas.List.{get_or-set_same}
 use Rattle.run_record.specs.declared.event.Event.{Event}
 use Rattle.run_record.specs.declared.event.Event.TheVariants as events
-use Rattle.run_record.specs.declared.event.Part.{Part}
 use Rattle.run_record.specs.declared.entry.Label.{Label}
 use Rattle.run_record.specs.declared.limits.Limits.{Limits}
 use Rattle.run_laws.specs.Moments.{Does, Moment, IsBy}
 use Rattle.run_laws.specs.Labels.{raises}
 use Rattle.run_laws.specs.Present.{labels_now, label_now, clocks_now, queue_now}
 use Rattle.slot_desk.specs.declared.answers.Created.TheVariants.{Thread, Full}
-use Rattle.slot_desk.specs.declared.answers.Joined.TheVariants.{Done}
 use Rattle.slot_desk.specs.Desks.{DeskContents, thread_of, held_of, held_from}
 use Rattle.slot_desk.specs.Steps as desks
 use Rattle.slot_desk.proofs.HistorySteps.{labelled_holds}
@@ -20,9 +18,8 @@ use Rattle.sync_slab.specs.Objects.{SyncObjects}
 use Rattle.race_core.specs.Watched.{Watched, new_watched, unlabelled, next_label}
 use Rattle.turn_laws.specs.Going.{spent_by}
 use Rattle.turn_orders.specs.Machine.{but}
-use Rattle.turn_orders.proofs.Functions.{but_same}
 use Rattle.report_laws.proofs.CollectedLaw.{push_unchecked}
-use Rattle.thread_events.specs.Heard.{IsGranted, ObjectsAfter, raised_or_lost, raised_or_lost_to, lost_label, lost_label_to, watcher_after, desk_after}
+use Rattle.thread_events.specs.Heard.{IsGranted, ObjectsAfter, raised_or_lost, raised_or_lost_to, lost_label, lost_label_to, watcher_after}
 use Rattle.thread_events.proofs.Longer.{era_stays, no_era}
 use Rattle.thread_events.proofs.Raises.{own_entry, either_way, its_slot}
 use Rattle.hart_events.specs.Events.{lost_after}

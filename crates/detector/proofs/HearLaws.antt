@@ -1,10 +1,9 @@
 -- Each event as it is heard.
-use Rattle.std.proofs.Common.{◌≡◌, ℕ, ◌<◌, ◌≤◌, ◌^◌, ◌-◌, ◌==◌, Option, Some, None, List, [], ◌∷◌, ◌++◌, length, get_or, append-nil, refl, ap, sym, subst, ◌∙◌, arith, ne_eqb}
-use Rattle.std.specs.Prelude.{map, IsSomeAnd, slice_set, slice_index, option_map}
+use Rattle.std.proofs.Common.{◌≡◌, ℕ, ◌<◌, ◌≤◌, ◌^◌, ◌-◌, ◌==◌, Option, Some, None, List, [], ◌∷◌, ◌++◌, length, get_or, append-nil, refl, ap, sym, subst, ◌∙◌, arith}
+use Rattle.std.specs.Prelude.{map, IsSomeAnd, slice_set, slice_index}
 use Rattle.std.proofs.lemmas.List.Elements.{All-nil}
 use Rattle.run_record.specs.declared.event.Event.{Event}
 use Rattle.run_record.specs.declared.event.Event.TheVariants as events
-use Rattle.run_record.specs.declared.event.Part.{Part}
 use Rattle.run_record.specs.declared.entry.Check.{Check}
 use Rattle.run_record.specs.declared.entry.Label.{Label}
 use Rattle.elf_image.specs.File.{granule_of, granules_of}
@@ -17,19 +16,17 @@ use Rattle.run_laws.specs.Checks.{StoresRightly}
 use Rattle.run_laws.specs.Present.{labels_now, label_now, clocks_now, queue_now}
 use Rattle.run_laws.proofs.LabelLaw.{label_parts}
 use Rattle.slot_desk.specs.Desks.{held_of}
-use Rattle.slot_desk.specs.Steps as desks
-use Rattle.slot_desk.specs.declared.answers.Joined.TheVariants.{Done}
 use Rattle.slot_desk.proofs.HistorySteps.{labelled_holds}
 use Rattle.race_core.specs.Walk.{planned, pair_of}
 use Rattle.run_laws.specs.Accesses.{parts_of}
 use Rattle.race_core.specs.declared.watcher.Candidate.{Candidate}
-use Rattle.race_core.specs.Watched.{Watched, AreWatcherLimits, new_watched, noted}
-use Rattle.turn_laws.specs.Going.{spent_by, AreRightNow, LoadsNow}
+use Rattle.race_core.specs.Watched.{Watched, AreWatcherLimits, new_watched}
+use Rattle.turn_laws.specs.Going.{AreRightNow, LoadsNow}
 use Rattle.report_laws.specs.Sound.{first_race_in}
 use Rattle.detector.specs.declared.access.Raced.{Raced}
 use Rattle.hart_events.specs.Events.{MayRaise, MayEnd, IsAlone, lost_after}
 use Rattle.slot_desk.proofs.DeskLists.{read_at}
-use Rattle.detector.specs.Detected.{Detected, watcher_of, with_watcher, watched_after, after_event, after_note, IsGoing, IsLeaving}
+use Rattle.detector.specs.Detected.{Detected, watcher_of, with_watcher, watched_after, after_event, after_note, IsGoing}
 use Rattle.detector.specs.Checked.{raced_of, waits_on}
 use Rattle.detector.specs.Checking.{Checking, IsStanding, ChecksAll}
 use Rattle.detector.specs.Stands.{Stands}

@@ -1,6 +1,6 @@
 -- What a detector keeps, as the laws of events have it: the objects of all addresses are at one place.
-use Rattle.std.proofs.Common.{◌≡◌, ◌≢◌, ℕ, zero, suc, ◌<◌, ◌⊎◌, inl, inr, ◌==◌, ◌&&◌, ◌||◌, Bool, true, false, cond, Option, Some, None, List, [], ◌∷◌, ◌++◌, length, refl, ap, sym, subst, ◌∙◌, eqb-true}
-use Rattle.std.specs.Prelude.{map, slice_set, is_some, option_map, if◌then◌else◌}
+use Rattle.std.proofs.Common.{◌≡◌, ℕ, zero, suc, ◌<◌, ◌⊎◌, inl, inr, ◌==◌, ◌&&◌, ◌||◌, Bool, true, false, cond, Option, Some, None, List, [], ◌∷◌, ◌++◌, length, refl, ap, sym, subst, ◌∙◌, eqb-true}
+use Rattle.std.specs.Prelude.{map, is_some, option_map}
 use Rattle.std.proofs.lemmas.List.{get_or-set_same, get_or-set_other}
 use mathlib.Core.Logic.{dite}
 use native.Mathlib.Decide.{ℕ_discrete}
@@ -11,8 +11,7 @@ use Rattle.run_record.specs.declared.limits.Limits.{Limits}
 use Rattle.run_laws.specs.Moments.{Does, Moment, items}
 use Rattle.run_laws.specs.Labels.{raises}
 use Rattle.run_laws.specs.Clocks.{Clocks}
-use Rattle.run_laws.specs.Present.{labels_now, clocks_now}
-use Rattle.slot_desk.specs.declared.slot.Attachment.{Attachment}
+use Rattle.run_laws.specs.Present.{clocks_now}
 use Rattle.slot_desk.specs.Desks.{DeskContents, thread_of, slot_of}
 use Rattle.slot_desk.specs.History.{IsDeskAt}
 use Rattle.sync_slab.specs.Objects.{SyncObject, SyncObjects}

@@ -1,5 +1,5 @@
 -- What a detector keeps, and what each event makes of it.
-use Rattle.std.specs.Prelude.{◌≡◌, ◌<◌, ◌≤◌, ℕ, ◌+◌, ◌*◌, true, Option, Some, None, List, [], ◌∷◌, ◌++◌, length, slice_set, slice_index, slice_index_or}
+use Rattle.std.specs.Prelude.{◌≡◌, ◌<◌, ℕ, ◌+◌, ◌*◌, true, Some, None, List, [], ◌∷◌, ◌++◌, length, slice_set, slice_index, slice_index_or}
 use Rattle.run_record.specs.declared.entry.Label.{Label}
 use Rattle.run_record.specs.declared.event.Event.{Event}
 use Rattle.run_record.specs.declared.event.Event.TheVariants as events
@@ -104,10 +104,6 @@ after_resume d t = with_watcher d t (in_era (watcher_of d t) d.era)
 -- after room was made for the events of one instruction of thread t
 abbrev pub after_room : Detected → ℕ → ℕ → Detected
 after_room d t spare = record (with_watcher d t (with_room (watcher_of d t))) { objects = record d.objects { spare = spare } }
-
--- the slot at the queue's front has an epoch left
-abbrev pub FrontIsFree : ℕ → DeskContents → Type 0
-FrontIsFree greatest desk = (sid : ℕ) (rest : List ℕ) → desk.queue ≡ sid ∷ rest → (sid < 255) × ((slot_of desk sid).last + 1 ≤ greatest)
 
 -- thread t has taken the slot at the queue's front, with that label
 pub record Takes (old new : Detected) (t : ℕ) (label : Label) : Type 0 where
