@@ -1,30 +1,30 @@
 -- The detector after each event that has no check.
-use Rattle.std.proofs.Common.{◌≡◌, ℕ, zero, suc, ◌+◌, ◌<◌, ◌⊎◌, ◌==◌, ◌&&◌, Bool, true, false, cond, Option, Some, None, List, [], ◌∷◌, ◌++◌, length, get_or, length-append, inl, inr, refl, ap, sym, subst, ◌∙◌, arith, eq-eqb, ne_eqb}
-use Rattle.std.specs.Prelude.{map, slice_set, slice_index, option_map}
+use Rattle.std.proofs.Common.{◌≡◌, ℕ, zero, suc, ◌+◌, ◌<◌, ◌⊎◌, ◌==◌, Bool, true, false, cond, Option, Some, None, List, [], ◌∷◌, ◌++◌, length, get_or, length-append, inl, inr, refl, ap, sym, subst, ◌∙◌, arith, eq-eqb, eqb-true, ne_eqb}
+use Rattle.std.specs.Prelude.{map, slice_set, slice_index}
 use Rattle.std.proofs.Math.ListN.{length-set}
 use Rattle.std.proofs.lemmas.List.{get_or-set_same}
 use Rattle.run_record.specs.declared.event.Event.{Event}
 use Rattle.run_record.specs.declared.event.Event.TheVariants as events
-use Rattle.run_record.specs.declared.event.Part.{Part}
 use Rattle.run_record.specs.declared.entry.Label.{Label}
 use Rattle.run_record.specs.declared.limits.Limits.{Limits}
 use Rattle.run_laws.specs.Moments.{Does, Moment, IsBy}
 use Rattle.run_laws.specs.Labels.{raises}
 use Rattle.run_laws.specs.Present.{labels_now, label_now, clocks_now, queue_now}
 use Rattle.slot_desk.specs.declared.answers.Created.TheVariants.{Thread, Full}
-use Rattle.slot_desk.specs.declared.answers.Joined.TheVariants.{Done}
-use Rattle.slot_desk.specs.Desks.{DeskContents, thread_of, held_from}
+use Rattle.slot_desk.specs.Desks.{DeskContents, thread_of, held_of, held_from}
 use Rattle.slot_desk.specs.Steps as desks
 use Rattle.slot_desk.proofs.HistorySteps.{labelled_holds}
-use Rattle.race_core.specs.Watched.{Watched, new_watched, noted, unlabelled, next_label}
+use Rattle.sync_slab.specs.Objects.{SyncObjects}
+use Rattle.race_core.specs.Watched.{Watched, new_watched, unlabelled, next_label}
 use Rattle.turn_laws.specs.Going.{spent_by}
 use Rattle.turn_orders.specs.Machine.{but}
-use Rattle.turn_orders.proofs.Functions.{but_same}
 use Rattle.report_laws.proofs.CollectedLaw.{push_unchecked}
-use Rattle.thread_events.specs.Heard.{IsGranted, ObjectsAfter, raised_or_lost, raised_or_lost_to, lost_label, lost_label_to, watcher_after, desk_after}
+use Rattle.thread_events.specs.Heard.{IsGranted, ObjectsAfter, raised_or_lost, raised_or_lost_to, lost_label, lost_label_to, watcher_after}
 use Rattle.thread_events.proofs.Longer.{era_stays, no_era}
 use Rattle.thread_events.proofs.Raises.{own_entry, either_way, its_slot}
-use Rattle.detector.specs.Detected.{Detected, watcher_of, with_watcher, after_begin, after_join, after_acquire, after_create, after_end, after_note, Releases, Destroys, Clears, IsGoing, IsLeaving}
+use Rattle.hart_events.specs.Events.{lost_after}
+use Rattle.detector.specs.Detected.{Detected, watcher_of, with_watcher, after_event, IsGoing, IsLeaving}
+use Rattle.detector.specs.Hears.{CanHear}
 use Rattle.detector.specs.Stands.{Stands, is_leaving, awaited}
 use Rattle.detector.proofs.Standing.{shadow_stays}
 use Rattle.detector.proofs.Placed.{one_place, kept_of, to_kept, watcher_but, leaves_by, going_on, stands_event}
@@ -58,6 +58,11 @@ raised_clock w l lost = go (next_label w.greatest w.label) lost
     go None q = refl
     go (Some x) q = absurd (cc)
 
+-- an event that raises no epoch spends no label
+pub spent_none : (g : ℕ) (o : Option Label) (e : Event) → raises e == 1 ≡ false → None ≡ spent_by g o e
+spent_none g None e q = refl
+spent_none g (Some l) e q = rw q refl
+
 -- a desk that creates isn't full, and names the next thread
 record Creates (d : DeskContents) (child : ℕ) : Type 0 where
   room : desks.is_full d ≡ false
@@ -77,74 +82,43 @@ module _ (granules : ℕ) (limits : Limits) (from : ℕ) (h : List Moment) (m : 
   abbrev later : List Moment
   later = h ++ m ∷ []
 
-  -- shadow, candidates and era stay
-  quiet :
-      (after : Detected) (e : Event) → m.item ≡ Does t e → IsGranted d.desk t e → ObjectsAfter d.era w.clock e d.objects after.objects → after.limits ≡ d.limits → after.era ≡ d.era → desk_after d.desk t w.clock e ≡ after.desk →
-      ((u : ℕ) → but (watcher_of d) t (watcher_after (thread_of d.desk t).told d.objects d.desk e w) u ≡ watcher_of after u) → length after.watchers ≡ after.desk.made → after.shadow ≡ d.shadow → after.waiting ≡ d.waiting →
-      Stands granules limits from (leaves_by t e w) later after
-  quiet after e made granted changed limits_are era desk watchers as_many shadow waiting =
-      stands_event granules limits from h m d after t s going e made granted changed limits_are
-      (era ∙ (s.era ∙ sym (era_stays limits.epochs h m (no_era t m.item (subst (IsBy t) (sym made) refl))))) desk watchers as_many
-      (rw shadow (shadow_stays granules limits.slots h m d.shadow none s.shadow)) (rw waiting (push_unchecked limits.epochs h from (map awaited d.waiting) m s.waiting none))
-
   as_many_set : (x : Watched) → length (slice_set d.watchers t x) ≡ d.desk.made
   as_many_set x = length-set d.watchers t x ∙ s.as_many
 
-  -- with the watcher that it had, it is the same
-  same_watcher : (u : ℕ) → but (watcher_of d) t (watcher_of d t) u ≡ watcher_of d u
-  same_watcher u = ap (λ (f : ℕ → Watched). f u) (but_same (watcher_of d) t)
+  -- a thread that is created has the next number
+  pub next_child : (child : ℕ) (x : Watched) → desks.created d.desk ≡ Thread child → child ≡ length (slice_set d.watchers t x)
+  next_child child x created = (creates d.desk child created).next ∙ sym (as_many_set x)
 
-  -- ---- events that raise no epoch
+  -- what the event asks is granted
+  granted : (e : Event) → CanHear d t e → IsGranted d.desk t e
+  granted (events.Create child) can = can.0
+  granted (events.Join of) can = can
+  granted events.End can = going.alive
+  granted _ can = tt
 
-  pub stands_begin : m.item ≡ Does t events.Begin → Stands granules limits from None later (after_begin d t)
-  stands_begin made = quiet (after_begin d t) events.Begin made tt refl refl refl refl (watcher_but d t _ going.watched) (as_many_set _) refl refl
-
-  pub stands_join : (of : ℕ) → m.item ≡ Does t (events.Join of) → desks.join_answer d.desk of ≡ Done → Stands granules limits from None later (after_join d t of)
-  stands_join of made done = quiet (after_join d t of) (events.Join of) made done refl refl refl refl (watcher_but d t _ going.watched) (as_many_set _) refl refl
-
-  pub stands_acquire : (addr : ℕ) (part : Part) → m.item ≡ Does t (events.Acquire addr part) → Stands granules limits from None later (after_acquire d t addr part)
-  stands_acquire addr part made =
-      quiet (after_acquire d t addr part) (events.Acquire addr part) made tt refl refl refl refl
-      (λ u. ap (λ (era : ℕ). but (watcher_of d) t (Rattle.race_core.specs.Watched.with_clock w (Rattle.vector_clock.specs.Clocks.joined w.clock (Rattle.sync_slab.specs.Objects.clock_in d.objects era addr part))) u) going.era ∙ watcher_but d t _ going.watched u)
-      (as_many_set _) refl refl
-
-  pub stands_end : m.item ≡ Does t events.End → Stands granules limits from None later (after_end d t)
-  stands_end made = quiet (after_end d t) events.End made going.alive refl refl refl refl (watcher_but d t _ going.watched) (as_many_set _ ∙ made_stays (Rattle.slot_desk.specs.Desks.held_of d.desk t)) refl refl
+  -- there are as many watchers as threads that were made
+  as_many : (e : Event) (set : SyncObjects) → CanHear d t e → length (after_event d t e set).watchers ≡ (after_event d t e set).desk.made
+  as_many (events.Create child) set can =
+      let c = creates d.desk child can.0 in
+      length-append (slice_set d.watchers t (raised_or_lost w)) (new_watched child d.limits ∷ []) ∙ (let a = as_many_set (raised_or_lost w) in let b : (desks.after_create d.desk w.clock).made ≡ d.desk.made + 1 = rw c.room refl in omega arith)
+  as_many events.End set can = as_many_set _ ∙ made_stays (held_of d.desk t)
     where
       made_stays : (o : Option (ℕ × ℕ)) → d.desk.made ≡ (Rattle.std.specs.Option.option_map_or (λ (x : ℕ × ℕ). desks.ended d.desk t x.0 (slice_index w.clock x.0) w.clock) o d.desk).made
       made_stays None = refl
       made_stays (Some x) = refl
+  as_many _ set can = as_many_set _
 
-  pub stands_destroy : (addr : ℕ) (after : Detected) → m.item ≡ Does t (events.Destroy addr) → Destroys d after addr → Stands granules limits from None later after
-  stands_destroy addr after made r =
-      quiet after (events.Destroy addr) made tt (r.ends, r.objects) (ap (λ (x : Detected). x.limits) r.rest) (ap (λ (x : Detected). x.era) r.rest) (ap (λ (x : Detected). x.desk) (sym r.rest))
-      (λ u. same_watcher u ∙ ap (λ (x : Detected). watcher_of x u) (sym r.rest)) (ap (λ (x : Detected). length x.watchers) r.rest ∙ (s.as_many ∙ ap (λ (x : Detected). x.desk.made) (sym r.rest))) (ap (λ (x : Detected). x.shadow) r.rest) (ap (λ (x : Detected). x.waiting) r.rest)
+  watchers_are : (e : Event) (set : SyncObjects) → CanHear d t e → (u : ℕ) → but (watcher_of d) t (watcher_after (thread_of d.desk t).told d.objects d.desk e w) u ≡ watcher_of (after_event d t e set) u
+  watchers_are (events.Create child) set can u =
+      watcher_but d t (raised_or_lost w) going.watched u ∙ sym (get_or-new d.limits child (slice_set d.watchers t (raised_or_lost w)) u (next_child child (raised_or_lost w) can.0))
+  watchers_are _ set can u = watcher_but d t _ going.watched u
 
-  pub stands_clear : (addr : ℕ) (after : Detected) → m.item ≡ Does t (events.Clear addr) → Clears d after addr → Stands granules limits from None later after
-  stands_clear addr after made r =
-      quiet after (events.Clear addr) made tt (r.removes, r.objects) (ap (λ (x : Detected). x.limits) r.rest) (ap (λ (x : Detected). x.era) r.rest) (ap (λ (x : Detected). x.desk) (sym r.rest))
-      (λ u. same_watcher u ∙ ap (λ (x : Detected). watcher_of x u) (sym r.rest)) (ap (λ (x : Detected). length x.watchers) r.rest ∙ (s.as_many ∙ ap (λ (x : Detected). x.desk.made) (sym r.rest))) (ap (λ (x : Detected). x.shadow) r.rest) (ap (λ (x : Detected). x.waiting) r.rest)
-
-  -- one that only its own thread hears of
-  pub stands_note : (e : Event) → m.item ≡ Does t e → raises e ≡ 0 → IsGranted d.desk t e → ObjectsAfter d.era w.clock e d.objects d.objects → desk_after d.desk t w.clock e ≡ d.desk → watcher_after (thread_of d.desk t).told d.objects d.desk e w ≡ noted w e → Stands granules limits from None later (after_note d t e)
-  stands_note e made flat granted same desk watcher =
-      subst (λ (o : Option ℕ). Stands granules limits from o later (after_note d t e)) (rw (ne_eqb (raises e) 1 (λ q. let z = flat in omega arith)) refl)
-      (quiet (after_note d t e) e made granted same refl refl desk (λ u. ap (λ (x : Watched). but (watcher_of d) t x u) watcher ∙ watcher_but d t (noted w e) going.watched u) (as_many_set _) refl refl)
-
-  -- ---- events that raise it
-
-  pub stands_release : (addr : ℕ) (part : Part) (replaces : Bool) (after : Detected) → m.item ≡ Does t (events.Release addr part replaces) → Releases d after t addr part replaces → Stands granules limits from (option_map (λ (l : Label). t) (lost_label w)) later after
-  stands_release addr part replaces after made r =
-      quiet after (events.Release addr part replaces) made tt (r.puts, r.objects) (ap (λ (x : Detected). x.limits) r.rest) (ap (λ (x : Detected). x.era) r.rest) (ap (λ (x : Detected). x.desk) (sym r.rest))
-      (λ u. watcher_but d t (raised_or_lost w) going.watched u ∙ ap (λ (x : Detected). watcher_of x u) (sym r.rest)) (ap (λ (x : Detected). length x.watchers) r.rest ∙ (as_many_set _ ∙ ap (λ (x : Detected). x.desk.made) (sym r.rest))) (ap (λ (x : Detected). x.shadow) r.rest) (ap (λ (x : Detected). x.waiting) r.rest)
-
-  pub stands_create : (child : ℕ) → m.item ≡ Does t (events.Create child) → desks.created d.desk ≡ Thread child → Stands granules limits from (option_map (λ (l : Label). t) (lost_label w)) later (after_create d t child)
-  stands_create child made created =
-      let c = creates d.desk child created in
-      let count : child ≡ length (slice_set d.watchers t (raised_or_lost w)) = (let a = as_many_set (raised_or_lost w) in let b = c.next in omega arith) in
-      quiet (after_create d t child) (events.Create child) made created refl refl refl refl
-      (λ u. watcher_but d t (raised_or_lost w) going.watched u ∙ sym (get_or-new d.limits child (slice_set d.watchers t (raised_or_lost w)) u count))
-      (length-append (slice_set d.watchers t (raised_or_lost w)) (new_watched child d.limits ∷ []) ∙ (let a = as_many_set (raised_or_lost w) in let b : (desks.after_create d.desk w.clock).made ≡ d.desk.made + 1 = rw c.room refl in omega arith)) refl refl
+  -- shadow, candidates and era stay
+  pub stands_after : (e : Event) (set : SyncObjects) → m.item ≡ Does t e → CanHear d t e → ObjectsAfter w.era w.clock e d.objects set → Stands granules limits from (leaves_by t e w) later (after_event d t e set)
+  stands_after e set made can changed =
+      stands_event granules limits from h m d (after_event d t e set) t s going e made (granted e can) changed refl
+      (s.era ∙ sym (era_stays limits.epochs h m (no_era t m.item (subst (IsBy t) (sym made) refl)))) refl (watchers_are e set can) (as_many e set can)
+      (shadow_stays granules limits.slots h m d.shadow none s.shadow) (push_unchecked limits.epochs h from (map awaited d.waiting) m s.waiting none)
 
   -- ---- the label that is lost
 
@@ -158,8 +132,8 @@ module _ (granules : ℕ) (limits : Limits) (from : ℕ) (h : List Moment) (m : 
     label_is = (s.watchers t).label (going.era ∙ s.era)
 
     -- what is told to be lost is what the history says is spent
-    pub spent_is : lost_label w ≡ spent_by limits.epochs (label_now limits.epochs h t) e
-    spent_is = sym (ap (λ (o : Option Label). spent_by limits.epochs o e) (sym label_is ∙ going.labelled) ∙ elim two_ways [
+    spent_raised : lost_label w ≡ spent_by limits.epochs (label_now limits.epochs h t) e
+    spent_raised = sym (ap (λ (o : Option Label). spent_by limits.epochs o e) (sym label_is ∙ going.labelled) ∙ elim two_ways [
       | inl up ↦ rw (eq-eqb (raises e) 1 raising, ne_eqb going.label.epoch limits.epochs (λ q. let z = up.0 in omega arith), up.2) refl
       | inr lost ↦ rw (eq-eqb (raises e) 1 raising, eq-eqb going.label.epoch limits.epochs lost.0, lost.2) refl
     ])
@@ -186,19 +160,23 @@ module _ (granules : ℕ) (limits : Limits) (from : ℕ) (h : List Moment) (m : 
         some_is : Some going.label ≡ Some l → going.label ≡ l
         some_is q = cc
 
-  pub leaves_release : (addr : ℕ) (part : Part) (replaces : Bool) (after : Detected) (l : Label) → m.item ≡ Does t (events.Release addr part replaces) → Releases d after t addr part replaces → lost_label w ≡ Some l → IsLeaving after t l
-  leaves_release addr part replaces after l made r lost =
-      let y = raised_or_lost w in
-      is_leaving_now (events.Release addr part replaces) made refl d.desk after l lost (ap (λ (x : Detected). x.desk) r.rest) refl refl going.alive
-      (subst (λ (x : Detected). t < length x.watchers) (sym r.rest) (let a = length-set d.watchers t y in let b = going.watched in omega arith))
-      (ap (λ (x : Detected). (watcher_of x t).clock) r.rest ∙ set_clock d t y going.watched (raised_clock w l lost))
+  pub spent_is : (e : Event) → m.item ≡ Does t e → lost_after e w ≡ spent_by limits.epochs (label_now limits.epochs h t) e
+  spent_is e made = go (raises e == 1) refl
+    where
+      go : (b : Bool) → raises e == 1 ≡ b → cond b (lost_label w) None ≡ spent_by limits.epochs (label_now limits.epochs h t) e
+      go true q = spent_raised e made (eqb-true (raises e) 1 q)
+      go false q = spent_none limits.epochs (label_now limits.epochs h t) e q
 
-  pub leaves_create : (child : ℕ) (l : Label) → m.item ≡ Does t (events.Create child) → desks.created d.desk ≡ Thread child → (thread_of (desks.after_create d.desk w.clock) t).lives ≡ true → lost_label w ≡ Some l → IsLeaving (after_create d t child) t l
-  leaves_create child l made created alive lost =
-      let c = creates d.desk child created in
+  pub leaves_after : (e : Event) (set : SyncObjects) (l : Label) → m.item ≡ Does t e → CanHear d t e → lost_after e w ≡ Some l → IsLeaving (after_event d t e set) t l
+  leaves_after (events.Release addr part replaces) set l made can lost =
+      let y = raised_or_lost w in
+      is_leaving_now (events.Release addr part replaces) made refl d.desk (after_event d t (events.Release addr part replaces) set) l lost refl refl refl going.alive
+      (let a = length-set d.watchers t y in let b = going.watched in omega arith) (set_clock d t y going.watched (raised_clock w l lost))
+  leaves_after (events.Create child) set l made can lost =
+      let c = creates d.desk child can.0 in
       let y = raised_or_lost w in
       let long = length-set d.watchers t y in
-      let count : child ≡ length (slice_set d.watchers t y) = (let a = s.as_many in let b = c.next in omega arith) in
-      is_leaving_now (events.Create child) made refl (desks.after_create d.desk w.clock) (after_create d t child) l lost refl (rw c.room refl) (rw c.room refl) alive
+      is_leaving_now (events.Create child) made refl (desks.after_create d.desk w.clock) (after_event d t (events.Create child) set) l lost refl (rw c.room refl) (rw c.room refl) can.1
       (let a = length-append (slice_set d.watchers t y) (new_watched child d.limits ∷ []) in let b = going.watched in omega arith)
-      (ap (λ (x : Watched). x.clock) (get_or-new d.limits child (slice_set d.watchers t y) t count) ∙ set_clock d t y going.watched (raised_clock w l lost))
+      (ap (λ (x : Watched). x.clock) (get_or-new d.limits child (slice_set d.watchers t y) t (next_child child y can.0)) ∙ set_clock d t y going.watched (raised_clock w l lost))
+  leaves_after _ set l made can lost = absurd (cc)

@@ -1,10 +1,9 @@
 -- Each event as it is heard.
-use Rattle.std.proofs.Common.{◌≡◌, ℕ, ◌<◌, ◌≤◌, ◌^◌, ◌-◌, Bool, true, false, Option, Some, None, List, [], ◌∷◌, ◌++◌, length, append-nil, refl, ap, sym, subst, ◌∙◌, arith, ne_eqb}
-use Rattle.std.specs.Prelude.{map, IsSomeAnd, slice_index, option_map}
+use Rattle.std.proofs.Common.{◌≡◌, ℕ, ◌<◌, ◌≤◌, ◌^◌, ◌-◌, ◌==◌, Option, Some, None, List, [], ◌∷◌, ◌++◌, length, get_or, append-nil, refl, ap, sym, subst, ◌∙◌, arith}
+use Rattle.std.specs.Prelude.{map, IsSomeAnd, slice_set, slice_index}
 use Rattle.std.proofs.lemmas.List.Elements.{All-nil}
 use Rattle.run_record.specs.declared.event.Event.{Event}
 use Rattle.run_record.specs.declared.event.Event.TheVariants as events
-use Rattle.run_record.specs.declared.event.Part.{Part}
 use Rattle.run_record.specs.declared.entry.Check.{Check}
 use Rattle.run_record.specs.declared.entry.Label.{Label}
 use Rattle.elf_image.specs.File.{granule_of, granules_of}
@@ -17,26 +16,26 @@ use Rattle.run_laws.specs.Checks.{StoresRightly}
 use Rattle.run_laws.specs.Present.{labels_now, label_now, clocks_now, queue_now}
 use Rattle.run_laws.proofs.LabelLaw.{label_parts}
 use Rattle.slot_desk.specs.Desks.{held_of}
-use Rattle.slot_desk.specs.Steps as desks
-use Rattle.slot_desk.specs.declared.answers.Joined.TheVariants.{Done}
 use Rattle.slot_desk.proofs.HistorySteps.{labelled_holds}
 use Rattle.race_core.specs.Walk.{planned, pair_of}
 use Rattle.run_laws.specs.Accesses.{parts_of}
 use Rattle.race_core.specs.declared.watcher.Candidate.{Candidate}
-use Rattle.race_core.specs.Watched.{Watched, AreWatcherLimits, new_watched, noted}
-use Rattle.turn_laws.specs.Going.{spent_by, AreRightNow, LoadsNow}
+use Rattle.race_core.specs.Watched.{Watched, AreWatcherLimits, new_watched}
+use Rattle.turn_laws.specs.Going.{AreRightNow, LoadsNow}
 use Rattle.report_laws.specs.Sound.{first_race_in}
 use Rattle.detector.specs.declared.access.Raced.{Raced}
-use Rattle.detector.specs.Detected.{Detected, watcher_of, IsGoing, IsLeaving, MayRaise, Releases, Destroys, Clears, after_begin, after_join, after_acquire, after_create, after_end, after_note}
+use Rattle.hart_events.specs.Events.{MayRaise, MayEnd, IsAlone, lost_after}
+use Rattle.slot_desk.proofs.DeskLists.{read_at}
+use Rattle.detector.specs.Detected.{Detected, watcher_of, with_watcher, watched_after, after_event, after_note, IsGoing}
 use Rattle.detector.specs.Checked.{raced_of, waits_on}
 use Rattle.detector.specs.Checking.{Checking, IsStanding, ChecksAll}
 use Rattle.detector.specs.Stands.{Stands}
-use Rattle.slot_desk.specs.Desks.{DeskContents}
-use Rattle.thread_events.specs.Heard.{desk_after, lost_label}
+use Rattle.slot_desk.specs.Desks.{DeskContents, thread_of}
+use Rattle.run_record.specs.declared.limits.Limits.{Limits}
 use Rattle.detector.specs.Hears.{Hears, CanHear}
 use Rattle.thread_events.proofs.Raises.{own_entry}
-use Rattle.thread_events.specs.Heard.{IsGranted, ObjectsAfter, watcher_after}
-use Rattle.detector.proofs.Events.{stands_begin, stands_join, stands_acquire, stands_end, stands_destroy, stands_clear, stands_note, stands_release, stands_create, leaves_release, leaves_create, spent_is}
+use Rattle.thread_events.specs.Heard.{ObjectsAfter, watcher_after, desk_after}
+use Rattle.detector.proofs.Events.{spent_none, stands_after, spent_is, leaves_after}
 use Rattle.detector.proofs.AccessLaws.{event_of, waits_for, after_access, stands_access, right_after}
 
 -- ---- what the calls need
@@ -68,35 +67,6 @@ needs granules d t st going =
 
 pub may_raise : (granules : ℕ) (d : Detected) (t : ℕ) → IsStanding granules d → IsGoing d t → 0 < (watcher_of d t).trace.spare → (watcher_of d t).trace.count < 2 ^ 64 - 1 → MayRaise (watcher_of d t)
 may_raise granules d t st going spare count = record { label = (needs granules d t st going).label; spare = spare; count = count }
-
--- ---- an event without checks
-
-spent_none : (g : ℕ) (o : Option Label) (e : Event) → raises e ≡ 0 → None ≡ spent_by g o e
-spent_none g None e q = refl
-spent_none g (Some l) e q = rw (ne_eqb (raises e) 1 (λ r. omega arith)) refl
-
-pub hears_quiet :
-    (file : List ℕ) (old new : Detected) (t place : ℕ) (e : Event) (checks : List Check) (spent : Option Label) → access_of e ≡ None →
-    ((from : ℕ) (h : List Moment) (m : Moment) → Stands (granules_of file) old.limits from None h old → m.item ≡ Does t e → m.checks ≡ [] → Stands (granules_of file) old.limits from (option_map (λ (l : Label). t) spent) (h ++ m ∷ []) new) →
-    ((from : ℕ) (h : List Moment) → Stands (granules_of file) old.limits from None h old → spent ≡ spent_by old.limits.epochs (label_now old.limits.epochs h t) e) →
-    ((from : ℕ) (h : List Moment) (l : Label) → Stands (granules_of file) old.limits from None h old → spent ≡ Some l → IsLeaving new t l) → new.desk ≡ desk_after old.desk t (watcher_of old t).clock e → Hears file old.limits old new t place e checks checks spent
-hears_quiet file old new t place e checks spent alone stands is leaves desk = record {
-  added = [];
-  checks_are = sym (append-nil checks);
-  of_event = All-nil (λ (c : Check). c.event ≡ place);
-  right = λ from h s. record { of_access = rw alone refl; stores = All-nil StoresRightly; loads = All-nil (LoadsNow h) };
-  stands = stands;
-  spent_is = is;
-  desk = desk;
-  leaves = leaves;
-}
-
-pub hears_plain :
-    (file : List ℕ) (old new : Detected) (t place : ℕ) (e : Event) (checks : List Check) → access_of e ≡ None → raises e ≡ 0 →
-    ((from : ℕ) (h : List Moment) (m : Moment) → Stands (granules_of file) old.limits from None h old → m.item ≡ Does t e → m.checks ≡ [] → Stands (granules_of file) old.limits from None (h ++ m ∷ []) new) →
-    new.desk ≡ desk_after old.desk t (watcher_of old t).clock e → Hears file old.limits old new t place e checks checks None
-hears_plain file old new t place e checks alone flat stands desk =
-    hears_quiet file old new t place e checks None alone stands (λ from h s. spent_none old.limits.epochs (label_now old.limits.epochs h t) e flat) (λ from h l s q. absurd (cc)) desk
 
 -- ---- an access
 
@@ -135,7 +105,7 @@ hears_access file old mid waited new t place e before after raced going all wait
       stands = λ from h m s made none.
           subst (Stands (granules_of file) old.limits from None (h ++ m ∷ [])) (sym after_is)
           (stands_access (granules_of file) old.limits from h m old t a mid.shadow s going (made ∙ ap (Does t) e_is) (granule_of file) (checked from h m.checks none s) found (ap (first_race_in (slice_index (watcher_of old t).clock)) none) going.watched);
-      spent_is = λ from h s. spent_none old.limits.epochs (label_now old.limits.epochs h t) e (ap raises e_is);
+      spent_is = λ from h s. spent_none old.limits.epochs (label_now old.limits.epochs h t) e (ap (λ (x : Event). raises x == 1) e_is);
       desk = ap (λ (d : Detected). d.desk) after_is ∙ ap (λ (x : Event). desk_after old.desk t (watcher_of old t).clock x) (sym e_is);
       leaves = λ from h l s q. absurd (cc);
     }
@@ -150,76 +120,101 @@ kept_watchers file old mid waited t place e before after raced all waited_is = (
 
 -- ---- the other events
 
--- an event of no concern to other threads, and no access
-abbrev pub is_plain : Event → Bool
-is_plain (events.Enter frame) = true
-is_plain events.Leave = true
-is_plain (events.Lock addr read) = true
-is_plain (events.Unlock addr read) = true
-is_plain (events.Put value count) = true
-is_plain _ = false
+-- the watcher that a call was lent
+lent : (old inside : Detected) (t : ℕ) (y : Watched) → inside ≡ old → t < length old.watchers → y ≡ get_or inside.watchers t y → y ≡ watcher_of old t
+lent old inside t y at watched here =
+    read_at inside.watchers t y (new_watched t inside.limits) (subst (λ (d : Detected). t < length d.watchers) (sym at) watched) here ∙ ap (λ (d : Detected). watcher_of d t) at
 
-record IsPlain (e : Event) : Type 0 where
-  alone : access_of e ≡ None
-  flat : raises e ≡ 0
-  granted : (d : DeskContents) (t : ℕ) → IsGranted d t e
+pub may_end : (granules : ℕ) (old inside : Detected) (t : ℕ) (y : Watched) → IsStanding granules old → IsGoing old t → inside ≡ old → y ≡ get_or inside.watchers t y → MayEnd inside.desk t y.clock events.End
+may_end granules old inside t y st going at here =
+    subst (λ (w : Watched). MayEnd inside.desk t w.clock events.End) (sym (lent old inside t y at going.watched here))
+    (subst (λ (d : Detected). MayEnd d.desk t (watcher_of old t).clock events.End) (sym at) (needs granules old t st going).epoch)
+
+-- what a call makes of the watcher that it was lent, and of the desk
+abbrev pub gone_on : Detected → ℕ → Event → SyncObjects → DeskContents → Watched → Detected
+gone_on d t e set desk x = record d { desk = desk; objects = set; watchers = watched_after d.limits e (slice_set d.watchers t x) }
+
+pub after_call :
+    (old inside : Detected) (t : ℕ) (y x : Watched) (f : Event) (desk : DeskContents) (set : SyncObjects) → inside ≡ old → t < length old.watchers → y ≡ get_or inside.watchers t y →
+    x ≡ watcher_after (thread_of inside.desk t).told inside.objects inside.desk f y → desk ≡ desk_after inside.desk t y.clock f → gone_on inside t f set desk x ≡ after_event old t f set
+after_call old inside t y x f desk set at watched here x_is desk_is =
+    let after : Watched → Watched = watcher_after (thread_of inside.desk t).told inside.objects inside.desk f in
+    let same : y ≡ watcher_of inside t = lent old inside t y at watched here ∙ ap (λ (d : Detected). watcher_of d t) (sym at) in
+    ap (gone_on inside t f set desk) x_is
+    ∙ (ap (λ (z : DeskContents). gone_on inside t f set z (after y)) desk_is
+    ∙ (ap (λ (z : Watched). gone_on inside t f set (desk_after inside.desk t z.clock f) (after z)) same
+    ∙ ap (λ (d : Detected). after_event d t f set) at))
+
+-- an event that its thread hears alone leaves objects, desk and label
+record IsHeardAlone (e : Event) : Type 0 where
   objects : (era : ℕ) (clock : List ℕ) (set : SyncObjects) → ObjectsAfter era clock e set set
   desk : (d : DeskContents) (t : ℕ) (clock : List ℕ) → d ≡ desk_after d t clock e
-  watcher : (given : Option (List ℕ)) (set : SyncObjects) (d : DeskContents) (w : Watched) → watcher_after given set d e w ≡ noted w e
+  still : (limits : Limits) (ws : List Watched) → ws ≡ watched_after limits e ws
+  unspent : (w : Watched) → None ≡ lost_after e w
 
-plain : (e : Event) → is_plain e ≡ true → IsPlain e
-plain (events.Enter frame) q = record { alone = refl; flat = refl; granted = λ d t. tt; objects = λ era clock set. refl; desk = λ d t clock. refl; watcher = λ given set d w. refl }
-plain events.Leave q = record { alone = refl; flat = refl; granted = λ d t. tt; objects = λ era clock set. refl; desk = λ d t clock. refl; watcher = λ given set d w. refl }
-plain (events.Lock addr read) q = record { alone = refl; flat = refl; granted = λ d t. tt; objects = λ era clock set. refl; desk = λ d t clock. refl; watcher = λ given set d w. refl }
-plain (events.Unlock addr read) q = record { alone = refl; flat = refl; granted = λ d t. tt; objects = λ era clock set. refl; desk = λ d t clock. refl; watcher = λ given set d w. refl }
-plain (events.Put value count) q = record { alone = refl; flat = refl; granted = λ d t. tt; objects = λ era clock set. refl; desk = λ d t clock. refl; watcher = λ given set d w. refl }
-plain _ q = absurd (cc)
+heard_alone : (e : Event) → IsAlone e → IsHeardAlone e
+heard_alone (events.Enter frame) is = record { objects = λ era clock set. refl; desk = λ d t clock. refl; still = λ limits ws. refl; unspent = λ w. refl }
+heard_alone events.Leave is = record { objects = λ era clock set. refl; desk = λ d t clock. refl; still = λ limits ws. refl; unspent = λ w. refl }
+heard_alone (events.Lock addr read) is = record { objects = λ era clock set. refl; desk = λ d t clock. refl; still = λ limits ws. refl; unspent = λ w. refl }
+heard_alone (events.Unlock addr read) is = record { objects = λ era clock set. refl; desk = λ d t clock. refl; still = λ limits ws. refl; unspent = λ w. refl }
+heard_alone (events.Access place addr size read atomic) is = record { objects = λ era clock set. refl; desk = λ d t clock. refl; still = λ limits ws. refl; unspent = λ w. refl }
+heard_alone (events.Put value count) is = record { objects = λ era clock set. refl; desk = λ d t clock. refl; still = λ limits ws. refl; unspent = λ w. refl }
+heard_alone _ is = absurd is
 
-module _ (file : List ℕ) (old new : Detected) (t place : ℕ) (e : Event) (checks : List Check) (going : IsGoing old t) where
-  -- the same of another name of the event and of the detector
-  renamed : (f : Event) (d : Detected) (spent : Option Label) → e ≡ f → new ≡ d → Hears file old.limits old d t place f checks checks spent → Hears file old.limits old new t place e checks checks spent
-  renamed f d spent e_is new_is hears = subst (λ (x : Event). Hears file old.limits old new t place x checks checks spent) (sym e_is) (subst (λ (n : Detected). Hears file old.limits old n t place f checks checks spent) (sym new_is) hears)
+module _ (file : List ℕ) (old : Detected) (t place : ℕ) (e : Event) (checks : List Check) (going : IsGoing old t) (can : CanHear old t e) where
+  abbrev w : Watched
+  w = watcher_of old t
 
-  pub hears_begin : e ≡ events.Begin → new ≡ after_begin old t → Hears file old.limits old new t place e checks checks None
-  hears_begin e_is new_is = renamed events.Begin (after_begin old t) None e_is new_is (hears_plain file old (after_begin old t) t place events.Begin checks refl refl (λ from h m s made none. stands_begin (granules_of file) old.limits from h m old t s going none made) refl)
+  -- an event without checks, which leaves these objects
+  hears : (set : SyncObjects) → access_of e ≡ None → ObjectsAfter w.era w.clock e old.objects set → Hears file old.limits old (after_event old t e set) t place e checks checks (lost_after e w)
+  hears set alone changed = record {
+    added = [];
+    checks_are = sym (append-nil checks);
+    of_event = All-nil (λ (c : Check). c.event ≡ place);
+    right = λ from h s. record { of_access = rw alone refl; stores = All-nil StoresRightly; loads = All-nil (LoadsNow h) };
+    stands = λ from h m s made none. stands_after (granules_of file) old.limits from h m old t s going none e set made can changed;
+    spent_is = λ from h s. spent_is (granules_of file) old.limits from h (made h) old t s going refl e refl;
+    desk = refl;
+    leaves = λ from h l s q. leaves_after (granules_of file) old.limits from h (made h) old t s going refl e set l refl can q;
+  }
+    where
+      made : List Moment → Moment
+      made h = record { entry = 0; round = 0; item = Does t e; checks = [] }
 
-  pub hears_join : (of : ℕ) → e ≡ events.Join of → desks.join_answer old.desk of ≡ Done → new ≡ after_join old t of → Hears file old.limits old new t place e checks checks None
-  hears_join of e_is done new_is = renamed (events.Join of) (after_join old t of) None e_is new_is (hears_plain file old (after_join old t of) t place (events.Join of) checks refl refl (λ from h m s made none. stands_join (granules_of file) old.limits from h m old t s going none of made done) refl)
+  -- the same by the name of the event that a call had
+  pub hears_event :
+      (new : Detected) (f : Event) (set : SyncObjects) (spent : Option Label) → e ≡ f → access_of f ≡ None → ObjectsAfter w.era w.clock f old.objects set → new ≡ after_event old t f set → spent ≡ lost_after f w →
+      Hears file old.limits old new t place e checks checks spent
+  hears_event new f set spent e_is alone changed new_is is =
+      let after : new ≡ after_event old t e set = new_is ∙ ap (λ (x : Event). after_event old t x set) (sym e_is) in
+      let lost : spent ≡ lost_after e w = is ∙ ap (λ (x : Event). lost_after x w) (sym e_is) in
+      subst (λ (n : Detected). Hears file old.limits old n t place e checks checks spent) (sym after)
+      (subst (λ (o : Option Label). Hears file old.limits old (after_event old t e set) t place e checks checks o) (sym lost)
+      (hears set (ap access_of e_is ∙ alone) (subst (λ (x : Event). ObjectsAfter w.era w.clock x old.objects set) (sym e_is) changed)))
 
-  pub hears_acquire : (addr : ℕ) (part : Part) → e ≡ events.Acquire addr part → new ≡ after_acquire old t addr part → Hears file old.limits old new t place e checks checks None
-  hears_acquire addr part e_is new_is = renamed (events.Acquire addr part) (after_acquire old t addr part) None e_is new_is (hears_plain file old (after_acquire old t addr part) t place (events.Acquire addr part) checks refl refl (λ from h m s made none. stands_acquire (granules_of file) old.limits from h m old t s going none addr part made) refl)
+  -- by a call that was lent the watcher y and left x
+  pub hears_call :
+      (inside : Detected) (y x : Watched) (f : Event) (desk : DeskContents) (set : SyncObjects) (spent : Option Label) → inside ≡ old → y ≡ get_or inside.watchers t y → e ≡ f → access_of f ≡ None →
+      x ≡ watcher_after (thread_of inside.desk t).told inside.objects inside.desk f y → desk ≡ desk_after inside.desk t y.clock f → ObjectsAfter y.era y.clock f inside.objects set → spent ≡ lost_after f y →
+      Hears file old.limits old (gone_on inside t f set desk x) t place e checks checks spent
+  hears_call inside y x f desk set spent at here e_is alone x_is desk_is changed is =
+      let same = lent old inside t y at going.watched here in
+      hears_event (gone_on inside t f set desk x) f set spent e_is alone
+      (subst (λ (d : Detected). ObjectsAfter w.era w.clock f d.objects set) at (subst (λ (z : Watched). ObjectsAfter z.era z.clock f inside.objects set) same changed))
+      (after_call old inside t y x f desk set at going.watched here x_is desk_is) (is ∙ ap (lost_after f) same)
 
-  pub hears_end : e ≡ events.End → new ≡ after_end old t → Hears file old.limits old new t place e checks checks None
-  hears_end e_is new_is = renamed events.End (after_end old t) None e_is new_is (hears_plain file old (after_end old t) t place events.End checks refl refl (λ from h m s made none. stands_end (granules_of file) old.limits from h m old t s going none made) refl)
+  -- an event that leaves its thread's watcher as it was
+  pub hears_still :
+      (inside : Detected) (f : Event) (set : SyncObjects) → inside ≡ old → e ≡ f → access_of f ≡ None → ObjectsAfter w.era w.clock f inside.objects set → record (with_watcher old t w) { objects = set } ≡ after_event old t f set → None ≡ lost_after f w →
+      Hears file old.limits old (record inside { objects = set }) t place e checks checks None
+  hears_still inside f set at e_is alone changed still unspent =
+      hears_event (record inside { objects = set }) f set None e_is alone (subst (λ (d : Detected). ObjectsAfter w.era w.clock f d.objects set) at changed)
+      (ap (λ (d : Detected). record d { objects = set }) at ∙ (ap (λ (ws : List Watched). record old { watchers = ws; objects = set }) (sym (set-get_or old.watchers t (new_watched t old.limits))) ∙ still)) unspent
 
-  pub hears_destroy : (addr : ℕ) → e ≡ events.Destroy addr → Destroys old new addr → Hears file old.limits old new t place e checks checks None
-  hears_destroy addr e_is destroys = renamed (events.Destroy addr) new None e_is refl (hears_plain file old new t place (events.Destroy addr) checks refl refl (λ from h m s made none. stands_destroy (granules_of file) old.limits from h m old t s going none addr new made destroys) (ap (λ (d : Detected). d.desk) destroys.rest))
-
-  pub hears_clear : (addr : ℕ) → e ≡ events.Clear addr → Clears old new addr → Hears file old.limits old new t place e checks checks None
-  hears_clear addr e_is clears = renamed (events.Clear addr) new None e_is refl
-      (hears_plain file old new t place (events.Clear addr) checks refl refl
-      (λ from h m s made none. stands_clear (granules_of file) old.limits from h m old t s going none addr new made clears) (ap (λ (d : Detected). d.desk) clears.rest))
-
-  pub hears_note : is_plain e ≡ true → new ≡ after_note old t e → Hears file old.limits old new t place e checks checks None
-  hears_note is new_is =
-      let p = plain e is in
-      renamed e (after_note old t e) None refl new_is (hears_plain file old (after_note old t e) t place e checks p.alone p.flat (λ from h m s made none. stands_note (granules_of file) old.limits from h m old t s going none e made p.flat (p.granted old.desk t) (p.objects old.era (watcher_of old t).clock old.objects) (sym (p.desk old.desk t (watcher_of old t).clock)) (p.watcher (Rattle.slot_desk.specs.Desks.thread_of old.desk t).told old.objects old.desk (watcher_of old t))) (p.desk old.desk t (watcher_of old t).clock))
-
-  pub hears_put : (value count : ℕ) → e ≡ events.Put value count → new ≡ old → Hears file old.limits old new t place e checks checks None
-  hears_put value count e_is new_is = hears_note (ap is_plain e_is) (new_is ∙ (ap (λ (ws : List Watched). record old { watchers = ws }) (sym (set-get_or old.watchers t (new_watched t old.limits))) ∙ ap (after_note old t) (sym e_is)))
-
-  pub hears_release : (addr : ℕ) (part : Part) (replaces : Bool) (spent : Option Label) → e ≡ events.Release addr part replaces → Releases old new t addr part replaces → spent ≡ lost_label (watcher_of old t) → Hears file old.limits old new t place e checks checks spent
-  hears_release addr part replaces spent e_is releases is = renamed (events.Release addr part replaces) new spent e_is refl
-      (hears_quiet file old new t place (events.Release addr part replaces) checks spent refl
-      (λ from h m s made none. subst (λ (o : Option Label). Stands (granules_of file) old.limits from (option_map (λ (l : Label). t) o) (h ++ m ∷ []) new) (sym is) (stands_release (granules_of file) old.limits from h m old t s going none addr part replaces new made releases))
-      (λ from h s. let m : Moment = record { entry = 0; round = 0; item = Does t (events.Release addr part replaces); checks = [] } in is ∙ spent_is (granules_of file) old.limits from h m old t s going refl (events.Release addr part replaces) refl refl)
-      (λ from h l s q. let m : Moment = record { entry = 0; round = 0; item = Does t (events.Release addr part replaces); checks = [] } in leaves_release (granules_of file) old.limits from h m old t s going refl addr part replaces new l refl releases (sym is ∙ q)) (ap (λ (d : Detected). d.desk) releases.rest))
-
-  pub hears_create : (child : ℕ) (spent : Option Label) → e ≡ events.Create child → CanHear old t e → new ≡ after_create old t child → spent ≡ lost_label (watcher_of old t) → Hears file old.limits old new t place e checks checks spent
-  hears_create child spent e_is can new_is is =
-      let able = subst (CanHear old t) e_is can in
-      renamed (events.Create child) (after_create old t child) spent e_is new_is
-      (hears_quiet file old (after_create old t child) t place (events.Create child) checks spent refl
-      (λ from h m s made none. subst (λ (o : Option Label). Stands (granules_of file) old.limits from (option_map (λ (l : Label). t) o) (h ++ m ∷ []) (after_create old t child)) (sym is) (stands_create (granules_of file) old.limits from h m old t s going none child made able.0))
-      (λ from h s. let m : Moment = record { entry = 0; round = 0; item = Does t (events.Create child); checks = [] } in is ∙ spent_is (granules_of file) old.limits from h m old t s going refl (events.Create child) refl refl)
-      (λ from h l s q. let m : Moment = record { entry = 0; round = 0; item = Does t (events.Create child); checks = [] } in leaves_create (granules_of file) old.limits from h m old t s going refl child l refl able.0 able.1 (sym is ∙ q)) refl)
+  -- an event that its thread hears alone
+  pub hears_alone : (inside : Detected) (y x : Watched) → inside ≡ old → y ≡ get_or inside.watchers t y → IsAlone e → access_of e ≡ None →
+      x ≡ watcher_after (thread_of inside.desk t).told inside.objects inside.desk e y → Hears file old.limits old (record inside { watchers = slice_set inside.watchers t x }) t place e checks checks None
+  hears_alone inside y x at here is alone x_is =
+      let heard = heard_alone e is in
+      subst (λ (ws : List Watched). Hears file old.limits old (record inside { watchers = ws }) t place e checks checks None) (sym (heard.still inside.limits (slice_set inside.watchers t x)))
+      (hears_call inside y x e inside.desk inside.objects None at here refl alone x_is (heard.desk inside.desk t y.clock) (heard.objects y.era y.clock inside.objects) (heard.unspent y))

@@ -1,6 +1,6 @@
 -- What a detector keeps, as the laws of events have it: the objects of all addresses are at one place.
-use Rattle.std.proofs.Common.{◌≡◌, ◌≢◌, ℕ, zero, suc, ◌<◌, ◌⊎◌, inl, inr, ◌==◌, ◌&&◌, ◌||◌, Bool, true, false, cond, Option, Some, None, List, [], ◌∷◌, ◌++◌, length, refl, ap, sym, subst, ◌∙◌, eqb-true}
-use Rattle.std.specs.Prelude.{map, slice_set, is_some, option_map, if◌then◌else◌}
+use Rattle.std.proofs.Common.{◌≡◌, ℕ, zero, suc, ◌<◌, ◌⊎◌, inl, inr, ◌==◌, ◌&&◌, ◌||◌, Bool, true, false, cond, Option, Some, None, List, [], ◌∷◌, ◌++◌, length, refl, ap, sym, subst, ◌∙◌, eqb-true}
+use Rattle.std.specs.Prelude.{map, is_some, option_map}
 use Rattle.std.proofs.lemmas.List.{get_or-set_same, get_or-set_other}
 use mathlib.Core.Logic.{dite}
 use native.Mathlib.Decide.{ℕ_discrete}
@@ -11,8 +11,7 @@ use Rattle.run_record.specs.declared.limits.Limits.{Limits}
 use Rattle.run_laws.specs.Moments.{Does, Moment, items}
 use Rattle.run_laws.specs.Labels.{raises}
 use Rattle.run_laws.specs.Clocks.{Clocks}
-use Rattle.run_laws.specs.Present.{labels_now, clocks_now}
-use Rattle.slot_desk.specs.declared.slot.Attachment.{Attachment}
+use Rattle.run_laws.specs.Present.{clocks_now}
 use Rattle.slot_desk.specs.Desks.{DeskContents, thread_of, slot_of}
 use Rattle.slot_desk.specs.History.{IsDeskAt}
 use Rattle.sync_slab.specs.Objects.{SyncObject, SyncObjects}
@@ -27,6 +26,7 @@ use Rattle.thread_events.specs.Standing as laws
 use Rattle.thread_events.specs.Standing.{Kept, is_kept_at}
 use Rattle.thread_events.specs.Heard.{IsGoing as Going, IsGiven, IfBegin, IsAtKeeper, IsGranted, ObjectsAfter, watcher_after, desk_after, kept_after, leaving_after, lost_label}
 use Rattle.thread_events.proofs.All.{event_stands}
+use Rattle.hart_events.specs.Events.{lost_after}
 use Rattle.detector.specs.Detected.{Detected, watcher_of, with_watcher, IsGoing}
 use Rattle.detector.specs.Stands.{Stands, IsShadow, is_leaving, awaited}
 
@@ -110,9 +110,9 @@ watcher_but d t w l u = dite (ℕ_discrete u t)
 
 -- who is to leave after it
 abbrev pub leaves_by : ℕ → Event → Watched → Option ℕ
-leaves_by t e w = if raises e == 1 then option_map (λ (l : Label). t) (lost_label w) else None
+leaves_by t e w = option_map (λ (l : Label). t) (lost_after e w)
 
-leaves_is : (t : ℕ) (w : Watched) (u : ℕ) (b : Bool) (o : Option Label) → false || ((u == t) && (b && is_some o)) ≡ true → is_leaving (cond b (option_map (λ (l : Label). t) o) None) u ≡ true
+leaves_is : (t : ℕ) (w : Watched) (u : ℕ) (b : Bool) (o : Option Label) → false || ((u == t) && (b && is_some o)) ≡ true → is_leaving (option_map (λ (l : Label). t) (cond b o None)) u ≡ true
 leaves_is t w u false o q = go (u == t) q
   where
     go : (c : Bool) → c && false ≡ true → false ≡ true
@@ -148,13 +148,12 @@ module _ (granules : ℕ) (limits : Limits) (from : ℕ) (h : List Moment) (m : 
   at_it _ = tt
 
   pub stands_event :
-      (e : Event) → m.item ≡ Does t e → IsGranted d.desk t e → ObjectsAfter d.era w.clock e d.objects after.objects →
+      (e : Event) → m.item ≡ Does t e → IsGranted d.desk t e → ObjectsAfter w.era w.clock e d.objects after.objects →
       after.limits ≡ d.limits → after.era ≡ era_now limits.epochs (h ++ m ∷ []) → desk_after d.desk t w.clock e ≡ after.desk →
       ((u : ℕ) → but (watcher_of d) t (watcher_after (thread_of d.desk t).told d.objects d.desk e w) u ≡ watcher_of after u) →
       length after.watchers ≡ after.desk.made → IsShadow granules limits.slots (h ++ m ∷ []) after.shadow → Collects limits.epochs (h ++ m ∷ []) from (length (h ++ m ∷ [])) (map awaited after.waiting) →
       Stands granules limits from (leaves_by t e w) (h ++ m ∷ []) after
   stands_event e made granted changed limits_are era desk watchers as_many shadow waiting =
       from_kept granules limits from (leaves_by t e w) (leaving_after (is_leaving None) t e w) (h ++ m ∷ []) (kept_after (kept_of d) 0 t (thread_of d.desk t).told e after.objects) after
-      (event_stands limits one_place (is_leaving None) h m (kept_of d) 0 t (thread_of d.desk t).told after.objects (to_kept granules limits from None h d s) going_on e made (given e) (at_it e) granted
-      (subst (λ (n : ℕ). ObjectsAfter n w.clock e d.objects after.objects) (sym going.era) changed))
+      (event_stands limits one_place (is_leaving None) h m (kept_of d) 0 t (thread_of d.desk t).told after.objects (to_kept granules limits from None h d s) going_on e made (given e) (at_it e) granted changed)
       (limits_are ∙ s.limits_are) era desk refl watchers (λ u q. leaves_is t w u (raises e == 1) (lost_label w) q) as_many shadow waiting

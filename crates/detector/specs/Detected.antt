@@ -1,17 +1,15 @@
 -- What a detector keeps, and what each event makes of it.
-use Rattle.std.specs.Prelude.{◌≡◌, ◌<◌, ◌≤◌, ℕ, ◌+◌, ◌*◌, if◌then◌else◌, Bool, true, ◌^◌, ◌-◌, IsSomeAnd, Option, Some, None, List, [], ◌∷◌, ◌++◌, length, slice_set, slice_index, slice_index_or}
+use Rattle.std.specs.Prelude.{◌≡◌, ◌<◌, ℕ, ◌+◌, ◌*◌, true, Some, None, List, [], ◌∷◌, ◌++◌, length, slice_set, slice_index, slice_index_or}
 use Rattle.run_record.specs.declared.entry.Label.{Label}
 use Rattle.run_record.specs.declared.event.Event.{Event}
-use Rattle.run_record.specs.declared.event.Part.{Part}
-use Rattle.run_record.specs.declared.event.Part.TheVariants.{Main}
+use Rattle.run_record.specs.declared.event.Event.TheVariants as events
 use Rattle.run_record.specs.declared.limits.Limits.{Limits}
 use Rattle.slot_desk.specs.Desks.{DeskContents, thread_of, held_of, slot_of}
 use Rattle.slot_desk.specs.Steps as desks
-use Rattle.vector_clock.specs.Clocks.{joined}
-use Rattle.sync_slab.specs.Objects.{SyncObject, SyncObjects, AreObjects, clock_in, Puts, Ends, Removes}
-use Rattle.race_core.specs.Watched.{Watched, new_watched, with_clock, unlabelled, labelled, raised, next_label, noted, in_era, with_room}
+use Rattle.sync_slab.specs.Objects.{SyncObjects}
+use Rattle.race_core.specs.Watched.{Watched, new_watched, with_clock, labelled, noted, in_era, with_room}
 use Rattle.race_core.specs.declared.watcher.Candidate.{Candidate}
-use Rattle.thread_events.specs.Heard.{raised_or_lost, released}
+use Rattle.thread_events.specs.Heard.{watcher_after, desk_after}
 
 -- The limits of the run; the present era; the desk; the synchronisation objects; one watcher a thread, by its number;
 -- the shadow words, four a granule; and the accesses of the round that have a candidate.
@@ -39,65 +37,28 @@ shadow_at shadow granule cell = slice_index shadow (4 * granule + cell)
 abbrev pub cells_at : List ℕ → ℕ → List ℕ
 cells_at shadow granule = shadow_at shadow granule 0 ∷ shadow_at shadow granule 1 ∷ shadow_at shadow granule 2 ∷ shadow_at shadow granule 3 ∷ []
 
--- ---- what passes clocks on
+-- ---- an event
 
--- thread t takes in a clock
-abbrev pub with_clock_of : Detected → ℕ → List ℕ → Detected
-with_clock_of d t clock = with_watcher d t (with_clock (watcher_of d t) clock)
+-- a thread that is created gets a watcher
+abbrev pub watched_after : Limits → Event → List Watched → List Watched
+watched_after limits (events.Create child) watchers = watchers ++ new_watched child limits ∷ []
+watched_after limits e watchers = watchers
 
--- thread t begins: it takes in what its creator knew
-abbrev pub after_begin : Detected → ℕ → Detected
-after_begin d t = with_clock_of d t (desks.joined_told (watcher_of d t).clock (thread_of d.desk t).told)
-
--- it joins an ended thread
-abbrev pub after_join : Detected → ℕ → ℕ → Detected
-after_join d t ended = with_clock_of d t (desks.clock_after_join d.desk ended (watcher_of d t).clock)
-
--- it takes in what was released
-abbrev pub after_acquire : Detected → ℕ → ℕ → Part → Detected
-after_acquire d t addr part = with_clock_of d t (joined (watcher_of d t).clock (clock_in d.objects d.era addr part))
-
--- it creates a thread, which gets a watcher
-abbrev pub after_create : Detected → ℕ → ℕ → Detected
-after_create d t child =
+-- what is kept after an event of thread t that leaves these objects: the desk and the thread's watcher have gone on
+abbrev pub after_event : Detected → ℕ → Event → SyncObjects → Detected
+after_event d t e objects =
     let w = watcher_of d t in
-    record d { desk = desks.after_create d.desk w.clock; watchers = slice_set d.watchers t (raised_or_lost w) ++ new_watched child d.limits ∷ [] }
-
--- it ends
-abbrev pub after_end : Detected → ℕ → Detected
-after_end d t =
-    let w = watcher_of d t in
-    record d { desk = desks.after_end d.desk t w.clock; watchers = slice_set d.watchers t (unlabelled w) }
-
--- after a release: the object has what was released, and the thread's epoch has risen
-pub record Releases (old new : Detected) (t addr : ℕ) (part : Part) (replaces : Bool) : Type 0 where
-  pub puts : Puts old.objects new.objects (released old.objects old.era (watcher_of old t).clock addr part replaces)
-  pub objects : AreObjects new.objects
-  pub rest : new ≡ record (with_watcher old t (raised_or_lost (watcher_of old t))) { objects = new.objects }
-
--- after the objects of an address have ended
-pub record Destroys (old new : Detected) (addr : ℕ) : Type 0 where
-  pub ends : Ends old.objects new.objects addr
-  pub objects : AreObjects new.objects
-  pub rest : new ≡ record old { objects = new.objects }
-
--- after the object of an address and the part Main has ended
-pub record Clears (old new : Detected) (addr : ℕ) : Type 0 where
-  pub removes : Removes old.objects new.objects addr Main
-  pub objects : AreObjects new.objects
-  pub rest : new ≡ record old { objects = new.objects }
+    record d {
+      desk = desk_after d.desk t w.clock e;
+      objects = objects;
+      watchers = watched_after d.limits e (slice_set d.watchers t (watcher_after (thread_of d.desk t).told d.objects d.desk e w));
+    }
 
 -- the thread's stack, locks and trace go on
 abbrev pub after_note : Detected → ℕ → Event → Detected
 after_note d t e = with_watcher d t (noted (watcher_of d t) e)
 
 -- ---- what a thread may do
-
--- the label of the watcher may rise, and its trace has room for it
-pub record MayRaise (w : Watched) : Type 0 where
-  pub label : IsSomeAnd w.label (λ (l : Label). l.sid < length w.clock)
-  pub spare : 0 < w.trace.spare
-  pub count : w.trace.count < 2 ^ 64 - 1
 
 -- Thread t is going on in the present era, with a slot.
 pub record IsGoing (d : Detected) (t : ℕ) : Type 0 where
@@ -143,10 +104,6 @@ after_resume d t = with_watcher d t (in_era (watcher_of d t) d.era)
 -- after room was made for the events of one instruction of thread t
 abbrev pub after_room : Detected → ℕ → ℕ → Detected
 after_room d t spare = record (with_watcher d t (with_room (watcher_of d t))) { objects = record d.objects { spare = spare } }
-
--- the slot at the queue's front has an epoch left
-abbrev pub FrontIsFree : ℕ → DeskContents → Type 0
-FrontIsFree greatest desk = (sid : ℕ) (rest : List ℕ) → desk.queue ≡ sid ∷ rest → (sid < 255) × ((slot_of desk sid).last + 1 ≤ greatest)
 
 -- thread t has taken the slot at the queue's front, with that label
 pub record Takes (old new : Detected) (t : ℕ) (label : Label) : Type 0 where

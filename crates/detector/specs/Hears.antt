@@ -10,7 +10,7 @@ use Rattle.run_laws.specs.Moments.{Does, Moment}
 use Rattle.run_laws.specs.Present.{label_now}
 use Rattle.slot_desk.specs.declared.answers.Created.TheVariants.{Thread}
 use Rattle.slot_desk.specs.declared.answers.Joined.TheVariants.{Done}
-use Rattle.slot_desk.specs.Desks.{DeskContents, thread_of}
+use Rattle.slot_desk.specs.Desks.{thread_of}
 use Rattle.slot_desk.specs.Steps as desks
 use Rattle.race_core.specs.Watched.{CanBeNoted}
 use Rattle.turn_laws.specs.Going.{spent_by, AreRightNow}

@@ -4,13 +4,15 @@ ghost use Rattle.elf_image.specs.File.{granules_of};
 ghost use Rattle.slot_desk.specs.Desks.{thread_of, held_of};
 ghost use Rattle.slot_desk.specs.Steps.{AreDeskLimits, new_desk};
 ghost use Rattle.race_core.specs.Watched.{AreWatcherLimits};
-ghost use Rattle.detector.specs.Detected.{watcher_of, after_resume, after_room, after_leave, after_era, FrontIsFree, Takes};
+ghost use Rattle.detector.specs.Detected.{watcher_of, after_resume, after_room, after_leave, after_era, Takes};
+ghost use Rattle.hart_events.specs.Events.{FrontIsFree};
 ghost use Rattle.detector.specs.Stands.{Stands};
 
 use elf_image::Image;
+use hart_events::{Attaching, attach};
 use race_core::{Candidate, Watcher};
 use run_record::{Label, Limits, NoMemory};
-use slot_desk::{Attached, Desk};
+use slot_desk::Desk;
 use std::alloc::Global;
 use std::marker::Model;
 use sync_slab::SyncSet;
@@ -115,23 +117,18 @@ impl Detector {
         requires unheld { held_of self.old.desk tid ≡ None }
         requires slots { length (watcher_of self.old tid).clock ≡ length self.old.desk.slots }
         requires front { FrontIsFree (watcher_of self.old tid).greatest self.old.desk }
+        requires era { (watcher_of self.old tid).era ≡ self.old.era }
+        requires greatest { (watcher_of self.old tid).greatest ≡ self.old.limits.epochs }
         requires spare { 0 < (watcher_of self.old tid).trace.spare }
         requires count { (watcher_of self.old tid).trace.count < 2 ^ 64 - 1 }
         ensures none { IfNone result ((self.old.desk.queue ≡ []) × (self.new ≡ self.old)) }
         ensures some { IfSome result (Takes self.old self.new tid) }
     {
         let watcher = &mut self.watchers[tid as usize];
-        match self.desk.attach(tid, watcher.clock()) {
-            Attached::None => None,
-            Attached::Slot(sid, epoch) => {
-                let label = Label {
-                    sid,
-                    epoch,
-                    era: self.era,
-                };
-                watcher.take_label(label);
-                Some(label)
-            }
+        match attach(watcher, &mut self.desk, tid, self.limits.epochs) {
+            Attaching::Took(label) => Some(label),
+            Attaching::NoneFree => None,
+            Attaching::Refused => unreachable!(),
         }
     }
 

@@ -7,6 +7,7 @@ ghost use Rattle.detector.specs.Hears.{CanHear, Hears};
 
 use crate::Detector;
 use elf_image::Image;
+use hart_events::{acquire, end, hear_alone, join, release};
 use run_record::{CheckList, Event, Label, NoMemory};
 use std::alloc::Global;
 
@@ -36,19 +37,28 @@ impl Detector {
                 let spent = self.create(alloc, tid, child)?;
                 return Ok(spent);
             }
-            Event::End => self.end(tid),
-            Event::Join(ended) => self.join(tid, ended),
-            Event::Acquire { addr, part } => self.acquire(tid, addr, part),
+            Event::End => end(&mut self.watchers[tid as usize], &mut self.desk, tid),
+            Event::Join(of) => {
+                join(&mut self.watchers[tid as usize], &mut self.desk, of);
+            }
+            Event::Acquire { addr, part } => {
+                acquire(&mut self.watchers[tid as usize], &self.objects, addr, part);
+            }
             Event::Release {
                 addr,
                 part,
                 replaces,
-            } => return Ok(self.release(tid, addr, part, replaces)),
-            Event::Destroy { addr } => self.destroy(addr),
-            Event::Clear { addr } => self.clear(addr),
+            } => {
+                let watcher = &mut self.watchers[tid as usize];
+                let spent = release(watcher, &mut self.objects, addr, part, replaces);
+                return Ok(spent);
+            }
+            Event::Destroy { addr } => self.objects.destroy(addr),
+            Event::Clear { addr } => self.objects.clear(addr),
             Event::Access { .. } => self.access(image, tid, place, event, checks)?,
-            Event::Enter(_) | Event::Leave => self.note(tid, event),
-            Event::Lock { .. } | Event::Unlock { .. } => self.note(tid, event),
+            Event::Enter(_) | Event::Leave | Event::Lock { .. } | Event::Unlock { .. } => {
+                hear_alone(&mut self.watchers[tid as usize], event);
+            }
             Event::Put { .. } => {}
         }
         Ok(None)

@@ -1,6 +1,6 @@
 // One event of a thread with a label.
 ghost use Rattle.std.specs.Prelude.{◌≡◌, ◌<◌, ◌≤◌, ◌-◌, ◌^◌, ℕ, true, List, Option, Some, length};
-ghost use Rattle.run_record.specs.declared.event.Event.TheVariants.{Begin};
+ghost use Rattle.run_record.specs.declared.event.Event.TheVariants.{Begin, Acquire, Release, Create, End, Join};
 ghost use Rattle.slot_desk.specs.Desks.{DeskContents, thread_of};
 ghost use Rattle.sync_slab.specs.Objects.{SyncObjects};
 ghost use Rattle.race_core.specs.Watched.{CanBeNoted};
@@ -8,7 +8,7 @@ ghost use Rattle.thread_events.specs.Heard.{raised_or_lost, lost_label, watcher_
 ghost use Rattle.hart_events.specs.Events.{MayRaise, MayEnd, IsAlone, IsOfChannel, IsOfDesk, lost_after};
 
 use race_core::Watcher;
-use run_record::{Event, Label};
+use run_record::{Event, Label, Part};
 use slot_desk::{Created, Desk, Joined};
 use sync_slab::SyncSet;
 use vector_clock::Clock;
@@ -54,6 +54,39 @@ pub fn hear_alone(watcher: &mut Watcher, event: &Event)
     watcher.note(event);
 }
 
+/// The thread takes in what was released at an address.
+pub fn acquire(watcher: &mut Watcher, set: &SyncSet, addr: u64, part: Part)
+    requires slots { length watcher.old.clock ≡ set.now.slots }
+    ensures { (given : Option (List ℕ)) (desk : DeskContents) → watcher.new ≡ watcher_after given set.now desk (Acquire addr part) watcher.old }
+{
+    let era = watcher.era();
+    set.acquire(era, addr, part, watcher.clock());
+}
+
+/// The thread releases what it knows at an address, and its epoch rises. Where that spends the thread's label, it is told.
+pub fn release(
+    watcher: &mut Watcher,
+    set: &mut SyncSet,
+    addr: u64,
+    part: Part,
+    replaces: bool,
+) -> Option<Label>
+    requires slots { length watcher.old.clock ≡ set.old.slots }
+    requires room { 1 ≤ set.old.spare }
+    requires may { MayRaise watcher.old }
+    ensures watcher { (given : Option (List ℕ)) (desk : DeskContents) → watcher.new ≡ watcher_after given set.old desk (Release addr part replaces) watcher.old }
+    ensures objects { ObjectsAfter watcher.old.era watcher.old.clock (Release addr part replaces) set.old set.new }
+    ensures spent { result ≡ lost_after (Release addr part replaces) watcher.old }
+{
+    let era = watcher.era();
+    if replaces {
+        set.release_store(era, addr, part, watcher.clock_ref());
+    } else {
+        set.release_join(era, addr, part, watcher.clock_ref());
+    }
+    raise(watcher)
+}
+
 /// The thread takes in what was released at an address, releases what it knows, or ends the objects of the address. Where that
 /// spends the thread's label, it is told.
 pub fn hear_at_object(watcher: &mut Watcher, set: &mut SyncSet, event: &Event) -> Option<Label>
@@ -65,26 +98,59 @@ pub fn hear_at_object(watcher: &mut Watcher, set: &mut SyncSet, event: &Event) -
     ensures objects { ObjectsAfter watcher.old.era watcher.old.clock event.now set.old set.new }
     ensures spent { result ≡ lost_after event.now watcher.old }
 {
-    let era = watcher.era();
     match *event {
-        Event::Acquire { addr, part } => set.acquire(era, addr, part, watcher.clock()),
+        Event::Acquire { addr, part } => acquire(watcher, set, addr, part),
         Event::Release {
             addr,
             part,
             replaces,
-        } => {
-            if replaces {
-                set.release_store(era, addr, part, watcher.clock_ref());
-            } else {
-                set.release_join(era, addr, part, watcher.clock_ref());
-            }
-            return raise(watcher);
-        }
+        } => return release(watcher, set, addr, part, replaces),
         Event::Destroy { addr } => set.destroy(addr),
         Event::Clear { addr } => set.clear(addr),
         _ => unreachable!(),
     }
     None
+}
+
+/// The thread creates another. What the desk doesn't grant is of no use afterwards.
+pub fn create(watcher: &mut Watcher, desk: &mut Desk, tid: u32, child: u32) -> Heard
+    requires live { (thread_of desk.old tid).lives ≡ true }
+    requires slots { length watcher.old.clock ≡ length desk.old.slots }
+    requires may { MayRaise watcher.old }
+    ensures granted { result.granted ≡ true → IsGranted desk.old tid (Create child) }
+    ensures sure { IsGranted desk.old tid (Create child) → result.granted ≡ true }
+    ensures watcher { (given : Option (List ℕ)) (set : SyncObjects) → watcher.new ≡ watcher_after given set desk.old (Create child) watcher.old }
+    ensures desk { desk.new ≡ desk_after desk.old tid watcher.old.clock (Create child) }
+    ensures spent { result.spent ≡ lost_after (Create child) watcher.old }
+{
+    let created = desk.create(tid, watcher.clock_ref());
+    Heard {
+        spent: raise(watcher),
+        granted: created == Created::Thread(child),
+    }
+}
+
+/// The thread ends, and leaves what it knows.
+pub fn end(watcher: &mut Watcher, desk: &mut Desk, tid: u32)
+    requires live { (thread_of desk.old tid).lives ≡ true }
+    requires slots { length watcher.old.clock ≡ length desk.old.slots }
+    requires may { MayEnd desk.old tid watcher.old.clock End }
+    ensures watcher { (given : Option (List ℕ)) (set : SyncObjects) → watcher.new ≡ watcher_after given set desk.old End watcher.old }
+    ensures desk { desk.new ≡ desk_after desk.old tid watcher.old.clock End }
+{
+    desk.end(tid, watcher.clock_ref());
+    watcher.lose_label();
+}
+
+/// The thread joins another. The desk grants it where that has ended.
+pub fn join(watcher: &mut Watcher, desk: &mut Desk, of: u32) -> bool
+    requires slots { length watcher.old.clock ≡ length desk.old.slots }
+    ensures granted { (tid : ℕ) → result ≡ true → IsGranted desk.old tid (Join of) }
+    ensures sure { (tid : ℕ) → IsGranted desk.old tid (Join of) → result ≡ true }
+    ensures watcher { (given : Option (List ℕ)) (set : SyncObjects) → watcher.new ≡ watcher_after given set desk.old (Join of) watcher.old }
+    ensures desk { desk.new ≡ desk.old }
+{
+    desk.join_thread(of as u64, watcher.clock()) == Joined::Done
 }
 
 /// The thread creates another, ends, or joins one that has ended. What the desk doesn't grant is of no use afterwards.
@@ -101,28 +167,18 @@ pub fn hear_at_desk(watcher: &mut Watcher, desk: &mut Desk, tid: u32, event: &Ev
     ensures spent { result.spent ≡ lost_after event.now watcher.old }
 {
     match *event {
-        Event::Create(child) => {
-            let created = desk.create(tid, watcher.clock_ref());
-            Heard {
-                spent: raise(watcher),
-                granted: created == Created::Thread(child),
-            }
-        }
+        Event::Create(child) => create(watcher, desk, tid, child),
         Event::End => {
-            desk.end(tid, watcher.clock_ref());
-            watcher.lose_label();
+            end(watcher, desk, tid);
             Heard {
                 spent: None,
                 granted: true,
             }
         }
-        Event::Join(of) => {
-            let joined = desk.join_thread(of as u64, watcher.clock());
-            Heard {
-                spent: None,
-                granted: joined == Joined::Done,
-            }
-        }
+        Event::Join(of) => Heard {
+            spent: None,
+            granted: join(watcher, desk, of),
+        },
         _ => unreachable!(),
     }
 }

@@ -10,5 +10,7 @@
 mod hear;
 mod slots;
 
-pub use hear::{Heard, begin, hear_alone, hear_at_desk, hear_at_object};
+pub use hear::{
+    Heard, acquire, begin, create, end, hear_alone, hear_at_desk, hear_at_object, join, release,
+};
 pub use slots::{Attaching, attach};

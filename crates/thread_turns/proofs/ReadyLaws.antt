@@ -5,6 +5,7 @@ use Rattle.std.proofs.lemmas.Bool.{and_parts}
 use Rattle.std.proofs.lemmas.List.{get_or-set_same}
 use Rattle.std.proofs.Math.ListN.{length-set}
 use Rattle.run_record.specs.declared.entry.Label.{Label}
+use Rattle.run_record.specs.declared.limits.Limits.{Limits}
 use Rattle.run_record.specs.declared.entry.DeskNote.TheVariants.{Nothing, Attach}
 use Rattle.elf_image.specs.File.{granule_of, granules_of}
 use Rattle.run_laws.specs.Moments.{Moment, items}
@@ -17,6 +18,7 @@ use Rattle.slot_desk.specs.Desks.{thread_of, held_of, slot_of}
 use Rattle.slot_desk.proofs.HistorySteps.{Attaches, attaches, unlabelled}
 use Rattle.race_core.specs.Watched.{Watched, new_watched, with_room, with_clock, labelled}
 use Rattle.race_core.proofs.FrameLaws.{frames_none}
+use Rattle.hart_events.specs.Events.{FrontIsFree}
 use Rattle.bare_machine.specs.World.{World}
 use Rattle.bare_machine.specs.Preview.{needs_slot}
 use Rattle.turn_laws.specs.Going.{AreRightFrom, HasSpent}
@@ -25,7 +27,7 @@ use Rattle.turn_laws.proofs.StepsLaw.{begin_is, before_with, before_without, nee
 use Rattle.turn_laws.proofs.PushLaw.{right-none, right-quiet, spent-none, spent-quiet}
 use Rattle.machine_laws.specs.Threads.{threads_in}
 use Rattle.machine_laws.proofs.DeskLaw.{attach_after}
-use Rattle.detector.specs.Detected.{Detected, watcher_of, after_room, after_take, FrontIsFree, IsResting, Takes}
+use Rattle.detector.specs.Detected.{Detected, watcher_of, after_room, after_take, IsResting, Takes}
 use Rattle.detector.specs.Stands.{Stands}
 use Rattle.detector.proofs.NoteLaws.{stands_room, stands_take, stands_nothing, unheld}
 use Rattle.slot_desk.specs.Steps as desks
@@ -50,6 +52,8 @@ ReadiesAll file tid goes p q old new = (s : Setting) → s.file ≡ file → s.t
 pub record AsksAttach (tid : ℕ) (d : Detected) : Type 0 where
   pub unheld : held_of d.desk tid ≡ None
   pub front : FrontIsFree (watcher_of d tid).greatest d.desk
+  pub era : (watcher_of d tid).era ≡ d.era
+  pub greatest : (watcher_of d tid).greatest ≡ d.limits.epochs
   pub count : (watcher_of d tid).trace.count < 2 ^ 64 - 1
 
 module _ (s : Setting) (p : Part) (w : WatchedMachine) (on : IsGoingOn s 0 p w) (unused : p.used ≡ false) where
@@ -143,6 +147,8 @@ module _ (s : Setting) (p : Part) (w : WatchedMachine) (on : IsGoingOn s 0 p w) 
         (let a = (front_there sid rest q).within in let b = on.limits_are.few_slots in omega arith),
         (let a = below sid rest q in let b = (roomy.watchers t).greatest in omega arith),
       );
+      era = resting.era;
+      greatest = (roomy.watchers t).greatest ∙ ap (λ (l : Limits). l.epochs) (sym roomy.limits_are);
       count = let a = (roomy.watchers t).trace.counted in let b = few_in_trace g (items h) (length h) t in omega arith;
     }
 

@@ -15,6 +15,12 @@ attach-part-requires-clause-unheld c = (asks_after c.args.image.now _ _ _ _ _ _ 
 pub attach-part-requires-clause-front : goal.attach-part-requires-clause-front
 attach-part-requires-clause-front c = (asks_after c.args.image.now _ _ _ _ _ _ _ c.requires.unused c.requires.turn (lacks_of c.args.image.now c.args.tid c.in_ok-instruction.field-0 c.args.part.now c.instruction.new.part c.args.self.now c.instruction.new.self c.if-branch.false c.in_ok-instruction.ensures) c.in_ok-room.ensures.rest).front
 
+pub attach-part-requires-clause-era : goal.attach-part-requires-clause-era
+attach-part-requires-clause-era c = (asks_after c.args.image.now _ _ _ _ _ _ _ c.requires.unused c.requires.turn (lacks_of c.args.image.now c.args.tid c.in_ok-instruction.field-0 c.args.part.now c.instruction.new.part c.args.self.now c.instruction.new.self c.if-branch.false c.in_ok-instruction.ensures) c.in_ok-room.ensures.rest).era
+
+pub attach-part-requires-clause-greatest : goal.attach-part-requires-clause-greatest
+attach-part-requires-clause-greatest c = (asks_after c.args.image.now _ _ _ _ _ _ _ c.requires.unused c.requires.turn (lacks_of c.args.image.now c.args.tid c.in_ok-instruction.field-0 c.args.part.now c.instruction.new.part c.args.self.now c.instruction.new.self c.if-branch.false c.in_ok-instruction.ensures) c.in_ok-room.ensures.rest).greatest
+
 pub attach-part-requires-clause-count : goal.attach-part-requires-clause-count
 attach-part-requires-clause-count c = (asks_after c.args.image.now _ _ _ _ _ _ _ c.requires.unused c.requires.turn (lacks_of c.args.image.now c.args.tid c.in_ok-instruction.field-0 c.args.part.now c.instruction.new.part c.args.self.now c.instruction.new.self c.if-branch.false c.in_ok-instruction.ensures) c.in_ok-room.ensures.rest).count
 
