@@ -1,5 +1,5 @@
 -- One worker's part of a round: the deeds of its thread, one after another, and the log of its seat.
-use Rattle.std.specs.Prelude.{◌≡◌, ◌≢◌, ◌<◌, ◌≤◌, ◌⊎◌, ◌*◌, ◌+◌, ℕ, zero, suc, Bool, true, false, List, [], ◌∷◌, ◌++◌, length, take, sum_by, Option, None, Some}
+use Rattle.std.specs.Prelude.{◌≡◌, ◌≢◌, ◌<◌, ◌≤◌, ◌⊎◌, ◌*◌, ◌+◌, ℕ, zero, suc, true, false, List, [], ◌∷◌, ◌++◌, take, sum_by, Option, None, Some}
 use Rattle.std.specs.List.{AllZip, flat_map}
 use Rattle.run_record.specs.declared.limits.Limits.{Limits}
 use Rattle.run_record.specs.declared.event.Event.{Event}
@@ -11,19 +11,18 @@ use Rattle.run_laws.specs.Labels.{raises}
 use Rattle.bare_machine.specs.Step.{desk}
 use Rattle.bare_machine.specs.Preview.{thread_needs}
 use Rattle.bare_machine.specs.declared.thread.Thread.{Thread}
-use Rattle.turn_orders.specs.Lists.{Each, In}
+use Rattle.turn_orders.specs.Lists.{Each}
 use Rattle.turn_orders.specs.LineUp.{Stamped, with_stamp, LocalsFollow, last_local}
 use Rattle.place_turns.specs.Places as machine
 use Rattle.place_turns.specs.Turns as turns
 use Rattle.machine_laws.specs.Events.{is_local}
 use Rattle.shared_table.specs.declared.object.Object.{Object}
 use Rattle.shared_table.specs.declared.object.Object.TheVariants.{Stripe, Desk}
-use Rattle.shared_table.specs.declared.view.Item.{Item}
 use Rattle.shared_table.specs.declared.view.Item.TheVariants.{Take, Give, Load, Store}
 use Rattle.shared_table.specs.Past.{Log}
 use Rattle.placed_detector.specs.Standing.{Hand}
 use Rattle.watched_turns.specs.Turns.{Act}
-use Rattle.deed_histories.specs.Lines.{HandDeed, entries_of, IsHandDeed}
+use Rattle.deed_histories.specs.Lines.{entries_of, IsHandDeed}
 use Rattle.table_deeds.specs.Objects.{ObjectDeed, hand_deed, hand_deeds, slots_in, last_in, held_in}
 
 -- ---- a part

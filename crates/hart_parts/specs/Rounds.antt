@@ -1,6 +1,6 @@
 -- Rounds of parts at the shared table.
-use Rattle.std.specs.Prelude.{◌≡◌, ◌⊎◌, ◌<◌, ◌≤◌, ◌+◌, ◌-◌, ℕ, Bool, if◌then◌else◌, IsPermutation, List, [], ◌∷◌, ◌++◌, length, map, flat_map, slice_get, Option, None, Some}
-use Rattle.std.specs.Prelude.{nat_lt, ◌==◌}
+use Rattle.std.specs.Prelude.{◌≡◌, ◌<◌, ◌≤◌, ◌+◌, ℕ, zero, suc, Bool, if◌then◌else◌, IsPermutation, List, [], ◌∷◌, ◌++◌, length, map, flat_map, take, drop, slice_get, None, Some}
+use Rattle.std.specs.Prelude.{◌==◌}
 use mathlib.Core.Option.{some}
 use lib.ListN.{get_elem?}
 use Rattle.run_record.specs.declared.limits.Limits.{Limits}
@@ -24,7 +24,7 @@ use Rattle.deed_histories.specs.Lines.{Tells}
 use Rattle.table_deeds.specs.Objects.{ObjectDeed}
 use Rattle.table_deeds.specs.Listing.{AreApart}
 use Rattle.table_deeds.specs.Rounds.{TableRound, made_in, last_stamp, HasObjects, HaveStamps, IsNextState}
-use Rattle.hart_parts.specs.Parts.{Part, at_last_object, rest_deeds, part_entries, IsPrivate, IsPart}
+use Rattle.hart_parts.specs.Parts.{Part, IsStretch, at_last_object, rest_deeds, part_entries, IsPrivate, IsPart}
 
 -- A round: the past before it and its own; the parts of its threads, of which the first has the seat of that number, the second the
 -- next one, and so on; the entries as the parts' logs are merged; the greatest stamp before it; whether an era begins after it; and
@@ -39,13 +39,34 @@ pub record PartRound : Type 0 where
   pub ends : Bool
   pub next : State (Stamped Hand) Object
 
--- A give has the next of the deeds, where it left another value than it found or the deed says that value; other items have none.
--- (So it is told along the log; a give without a deed is that of a turn which found no slot, behind all deeds.)
+-- the deed of an item: a give has the first of those that are left, if there is one; no other item has any
+abbrev pub told_at : List ObjectDeed → Item → List ObjectDeed
+told_at ds (Give k i found left) = take 1 ds
+told_at ds _ = []
+
+-- the deeds that are left for the items behind it
+abbrev pub told_after : List ObjectDeed → Item → List ObjectDeed
+told_after ds (Give k i found left) = drop 1 ds
+told_after ds _ = ds
+
+-- Along a log each give has the next of the deeds, so long as there is one. (A give behind all deeds has none: it is that of a turn
+-- which found no slot.)
 abbrev pub tags_along : List ObjectDeed → Log → ℕ → List ObjectDeed
 tags_along ds [] j = []
-tags_along [] (x ∷ log) j = []
-tags_along (d ∷ ds) (Give k i found left ∷ log) j = if nat_lt 0 j then tags_along ds log (j - 1) else d ∷ []
-tags_along (d ∷ ds) (x ∷ log) j = if nat_lt 0 j then tags_along (d ∷ ds) log (j - 1) else []
+tags_along ds (x ∷ log) zero = told_at ds x
+tags_along ds (x ∷ log) (suc j) = tags_along (told_after ds x) log j
+
+-- Where a deed stands in a log of these deeds: behind the items `front` is its stretch, whose last item, the give, has the deed.
+pub record StandsIn (ds : List ObjectDeed) (log : Log) (d : ObjectDeed) : Type 0 where
+  pub front : Log
+  pub items : Log
+  pub back : Log
+  pub whole : log ≡ front ++ (items ++ back)
+  pub is : IsStretch d items
+  pub place : ℕ
+  pub last : suc place ≡ length front + length items
+  pub give : get_elem? log place ≡ some (Give d.call.place is.number d.found d.left)
+  pub told : tags_along ds log place ≡ d ∷ []
 
 -- what the seat of that number tells of its items, where the parts have the seats from `first` on
 abbrev pub tag_from : ℕ → List Part → Tags (Stamped Hand) (Unit {0}) Tells
@@ -95,7 +116,9 @@ pub record IsPartRound (file : List ℕ) (limits : Limits) (lay : Layout) (round
   pub before : Each (λ (p : Part). p.before ≡ m.local p.thread) r.parts
   pub apart : AreApart (map (λ (p : Part). p.thread) r.parts)
   pub logs : (i : ℕ) (p : Part) → slice_get r.parts i ≡ Some p → log_of (r.first_seat + i) r.late ≡ p.log
-  pub others : (n j : ℕ) (x : Item) → (IsSeatOfPart r n → ⊥) → get_elem? (log_of n r.late) j ≡ some x → IsTagged {L = Stamped Hand} {A = Unit {0}} {T = Tells} x []
+  pub others :
+      (n j : ℕ) (x : Item) → (IsSeatOfPart r n → ⊥) → get_elem? (log_of n r.late) j ≡ some x →
+      IsTagged {L = Stamped Hand} {A = Unit {0}} {T = Tells} x []
   pub merged : IsPermutation (entries_in (map (part_entries file limits) r.parts)) r.entries
   pub ordered : AreOrdered r.entries
   pub inside : Each (IsIn round era) r.entries

@@ -111,11 +111,11 @@ module _ (file : List ℕ) (limits : Limits) where
       pub it : HandRound
       pub made_is : it.made ≡ hands_in file limits r
       pub base_is : it.base ≡ r.base
-      ends_is : it.ends ≡ r.ends
+      pub ends_is : it.ends ≡ r.ends
       pub is_round : IsHandRound file limits round era (held_at file limits m) it
-      entries : entries_of it.listed ≡ r.entries
+      pub entries : entries_of it.listed ≡ r.entries
       pub top_is : top it ≡ last_stamp r
-      after_it : hands_after era (held_at file limits m) it ≡ held_at file limits r.next
+      pub after_it : hands_after era (held_at file limits m) it ≡ held_at file limits r.next
 
     greatest_same : (era : ℕ) (ds : List HandDeed) → Each (IsHandDeed file limits era) ds → greatest hand_stamp ds ≡ greatest_in (entries_of ds)
     greatest_same era [] h = refl

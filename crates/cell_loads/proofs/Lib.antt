@@ -1,0 +1,13 @@
+pub mod Lists
+pub mod Times
+pub mod Timed
+pub mod Steps
+pub mod Born
+pub mod Deeds
+pub mod Walks
+pub mod Rising
+pub mod Round
+pub mod Rounds
+pub mod Checks
+pub mod Loads
+pub mod Histories
