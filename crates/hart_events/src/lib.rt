@@ -4,8 +4,8 @@
 //! knows neither the machine nor how objects are shared. `slot_desk`, `sync_slab` and `race_core` stand below this crate with their
 //! calls, and `thread_events` with the definitions. The layers above use the clauses, which are in the terms of `thread_events`:
 //! what the watcher is after the event (`watcher_after`), and what is left at its place (`ObjectsAfter`, `desk_after`, `Attaches`).
-//! `hear_at_object` and `hear_at_desk` choose by the event's kind; who has chosen already makes the call of that kind.
 //! So its laws hold of whoever calls, one thread at a time or many at once.
+//! `hear_at_object` and `hear_at_desk` choose by the event's kind; who has chosen already makes the call of that kind.
 #![tactic(auto)]
 
 mod hear;
