@@ -22,14 +22,14 @@ use Rattle.std.proofs.Common.{refl, sym, ◌∙◌, ◌⊎◌, inl, inr, ◌==�
 use Rattle.std.proofs.Math.ListN.{length-replicate}
 use Rattle.std.proofs.lemmas.List.{get_or_past}
 use Rattle.std.proofs.lemmas.Bool.{cases_lt}
-use Rattle.race_core.specs.Watched.{Watched, AreWatcherLimits, new_watched, with_room, noted, labelled, unlabelled, with_clock, raised, in_era, side_of}
+use Rattle.race_core.specs.Watched.{Watched, AreWatcherLimits, new_watched, with_events, noted, labelled, unlabelled, with_clock, raised, in_era, side_of}
 use Rattle.race_core.specs.History.{era_now, IsClock, IsWatcherAt, IsWithin, AttachesWithin}
 
 pub first_watcher : (limits : Limits) (h : List Moment) (t : ℕ) → AreWatcherLimits limits → ((i : ℕ) → IsBy t (items h i) → ⊥) → IsWatcherAt limits h t (new_watched t limits)
 first_watcher = first
 
-pub room_watcher : (limits : Limits) (h : List Moment) (t : ℕ) (w : Watched) → IsWatcherAt limits h t w → IsWatcherAt limits h t (with_room w)
-room_watcher limits h t w at = record {
+pub room_watcher : (limits : Limits) (h : List Moment) (t events : ℕ) (w : Watched) → IsWatcherAt limits h t w → IsWatcherAt limits h t (with_events events w)
+room_watcher limits h t events w at = record {
   in_range = at.in_range;
   tid = at.tid;
   greatest = at.greatest;

@@ -16,7 +16,7 @@ use Rattle.slot_desk.specs.Steps as desks
 use Rattle.slot_desk.proofs.Holders.{held_from-none}
 use Rattle.sync_slab.proofs.ChannelLaws.{keeps-reserved}
 use Rattle.sync_slab.specs.Channels.{everywhere}
-use Rattle.race_core.specs.Watched.{Watched, in_era, with_room}
+use Rattle.race_core.specs.Watched.{Watched, in_era, with_events}
 use Rattle.race_core.specs.History.{IsWatcherAt, era_now}
 use Rattle.report_laws.proofs.CollectedLaw.{push_unchecked}
 use Rattle.thread_events.specs.Standing as laws
@@ -25,7 +25,7 @@ use Rattle.thread_events.specs.Heard.{kept_attached, kept_left, kept_in_era, lea
 use Rattle.thread_events.proofs.Longer.{era_stays, no_era}
 use Rattle.thread_events.proofs.All.{put_stands}
 use Rattle.thread_events.proofs.Notes.{slotless, nothing_stands, left_stands, attached_stands, era_stands}
-use Rattle.detector.specs.Detected.{Detected, watcher_of, after_leave, after_take, after_era, after_resume, after_room, IsLeaving, IsResting}
+use Rattle.detector.specs.Detected.{Detected, watcher_of, after_leave, after_take, after_era, after_resume, Room, after_room, IsLeaving, IsResting}
 use Rattle.detector.specs.Stands.{Stands, is_leaving, awaited}
 use Rattle.detector.proofs.Laws.{enter_watcher, room_watcher}
 use Rattle.detector.proofs.Standing.{shadow_stays}
@@ -118,19 +118,19 @@ stands_resume granules limits from leaving h d t s l = record {
 }
 
 -- room changes nothing that a history tells of
-pub stands_room : (granules : ℕ) (limits : Limits) (from : ℕ) (leaving : Option ℕ) (h : List Moment) (d : Detected) (t spare : ℕ) → Stands granules limits from leaving h d → t < length d.watchers → Stands granules limits from leaving h (after_room d t spare)
-stands_room granules limits from leaving h d t spare s l = record {
+pub stands_room : (granules : ℕ) (limits : Limits) (from : ℕ) (leaving : Option ℕ) (h : List Moment) (d : Detected) (t : ℕ) (room : Room) → Stands granules limits from leaving h d → t < length d.watchers → Stands granules limits from leaving h (after_room d t room)
+stands_room granules limits from leaving h d t room s l = record {
   limits_are = s.limits_are;
   era = s.era;
   desk = s.desk;
-  objects = keeps-reserved everywhere d.era (clocks_now limits.epochs h) d.objects spare s.objects;
+  objects = keeps-reserved everywhere d.era (clocks_now limits.epochs h) d.objects room.objects s.objects;
   object_slots = s.object_slots;
-  watchers = λ u. elim (watcher-set d t u (with_room (watcher_of d t)) l) [
-    | inl same ↦ subst (λ (x : Watched). IsWatcherAt limits h u x) (sym same.1) (subst (λ (v : ℕ). IsWatcherAt limits h v (with_room (watcher_of d t))) (sym same.0) (room_watcher limits h t (watcher_of d t) (s.watchers t)))
+  watchers = λ u. elim (watcher-set d t u (with_events room.events (watcher_of d t)) l) [
+    | inl same ↦ subst (λ (x : Watched). IsWatcherAt limits h u x) (sym same.1) (subst (λ (v : ℕ). IsWatcherAt limits h v (with_events room.events (watcher_of d t))) (sym same.0) (room_watcher limits h t room.events (watcher_of d t) (s.watchers t)))
     | inr other ↦ subst (λ (x : Watched). IsWatcherAt limits h u x) (sym other.1) (s.watchers u)
   ];
   settled = s.settled;
-  as_many = length-set d.watchers t (with_room (watcher_of d t)) ∙ s.as_many;
+  as_many = length-set d.watchers t (with_events room.events (watcher_of d t)) ∙ s.as_many;
   within = s.within;
   shadow = s.shadow;
   waiting = s.waiting;

@@ -7,7 +7,7 @@ use Rattle.run_record.specs.declared.limits.Limits.{Limits}
 use Rattle.slot_desk.specs.Desks.{DeskContents, thread_of, held_of, slot_of}
 use Rattle.slot_desk.specs.Steps as desks
 use Rattle.sync_slab.specs.Objects.{SyncObjects}
-use Rattle.race_core.specs.Watched.{Watched, new_watched, with_clock, labelled, noted, in_era, with_room}
+use Rattle.race_core.specs.Watched.{Watched, new_watched, with_clock, labelled, noted, in_era, with_events}
 use Rattle.race_core.specs.declared.watcher.Candidate.{Candidate}
 use Rattle.thread_events.specs.Heard.{watcher_after, desk_after}
 
@@ -101,9 +101,18 @@ after_era d = record d { era = d.era + 1; desk = desks.after_reset d.desk }
 abbrev pub after_resume : Detected → ℕ → Detected
 after_resume d t = with_watcher d t (in_era (watcher_of d t) d.era)
 
--- after room was made for the events of one instruction of thread t
-abbrev pub after_room : Detected → ℕ → ℕ → Detected
-after_room d t spare = record (with_watcher d t (with_room (watcher_of d t))) { objects = record d.objects { spare = spare } }
+-- How many events of a thread may be noted, and how many objects may be new, before the next call of `room`.
+pub record Room : Type 0 where
+  pub events : ℕ
+  pub objects : ℕ
+
+-- the room of thread t
+abbrev pub room_of : Detected → ℕ → Room
+room_of d t = record { events = (watcher_of d t).trace.spare; objects = d.objects.spare }
+
+-- after that room was made for thread t
+abbrev pub after_room : Detected → ℕ → Room → Detected
+after_room d t room = record (with_watcher d t (with_events room.events (watcher_of d t))) { objects = record d.objects { spare = room.objects } }
 
 -- thread t has taken the slot at the queue's front, with that label
 pub record Takes (old new : Detected) (t : ℕ) (label : Label) : Type 0 where

@@ -4,7 +4,7 @@ ghost use Rattle.elf_image.specs.File.{granules_of};
 ghost use Rattle.slot_desk.specs.Desks.{thread_of, held_of};
 ghost use Rattle.slot_desk.specs.Steps.{AreDeskLimits, new_desk};
 ghost use Rattle.race_core.specs.Watched.{AreWatcherLimits};
-ghost use Rattle.detector.specs.Detected.{watcher_of, after_resume, after_room, after_leave, after_era, Takes};
+ghost use Rattle.detector.specs.Detected.{watcher_of, after_resume, after_room, room_of, after_leave, after_era, Takes};
 ghost use Rattle.hart_events.specs.Events.{FrontIsFree};
 ghost use Rattle.detector.specs.Stands.{Stands};
 
@@ -100,13 +100,16 @@ impl Detector {
         self.watchers[tid as usize].label()
     }
 
-    /// Makes room for the events of one instruction of the thread.
+    /// Makes room for the thread's next event, and for as many as one instruction has where there was none. So it makes room
+    /// once in a turn for several events. Where there is room it changes nothing.
+    #[inline(always)]
     pub fn room(&mut self, tid: u32) -> Result<(), NoMemory>
         requires { tid < length self.old.watchers }
+        ensures events { OnOk result (0 < (watcher_of self.new tid).trace.spare) }
         ensures room { OnOk result (1 ≤ self.new.objects.spare) }
-        ensures rest { OnOk result (self.new ≡ after_room self.old tid self.new.objects.spare) }
+        ensures rest { OnOk result (self.new ≡ after_room self.old tid (room_of self.new tid)) }
     {
-        self.watchers[tid as usize].room()?;
+        self.watchers[tid as usize].keep_room()?;
         self.objects.reserve_one()
     }
 

@@ -12,7 +12,7 @@ ghost use Rattle.detector.specs.Told.{CanBeTold, TellsPrevious, CanTellAll, Tell
 use crate::Detector;
 use elf_image::Image;
 use race_core::Candidate;
-use report_text::{Asked, Reporter, Suppressions};
+use report_text::{Reporter, Suppressions};
 use run_record::{Label, Locks, NoMemory, Side};
 use shadow_word::{Cell, unpack};
 use slot_desk::Desk;
@@ -125,25 +125,22 @@ impl Detector {
         std::mem::replace(&mut self.waiting, Vec::new(alloc))
     }
 
-    /// Offers the reports of the accesses that wait, in order, with the rule that each meets. None waits
-    /// afterwards.
+    /// Offers the reports of the accesses that wait, in order. None waits afterwards.
     pub fn tell<S: Suppressions>(
         &mut self,
         alloc: Global,
         image: &Image<'_>,
-        suppressions: &mut Asked<'_, S>,
-        reporter: &mut Reporter,
+        reporter: &mut Reporter<'_, S>,
     ) -> Result<(), NoMemory>
         requires can { CanTellAll image.now self.old }
-        requires room { offers reporter.old + length self.old.waiting < 2 ^ 32 - 1 }
-        ensures told { OnOk result (TellsAll (is_met (S.rule_met suppressions.old)) image.now self.old self.new reporter.old reporter.new) }
-        ensures rules { suppressions.new ≡ suppressions.old }
+        requires room { offers reporter.old.kept + length self.old.waiting < 2 ^ 32 - 1 }
+        ensures told { OnOk result (TellsAll (is_met (S.rule_met reporter.old.rules)) image.now self.old self.new reporter.old.kept reporter.new.kept) }
+        ensures rules { reporter.new.rules ≡ reporter.old.rules }
     {
         let waiting = self.take_waiting(alloc);
         for candidate in waiting {
             let previous = self.previous(alloc, image, &candidate)?;
-            let met = suppressions.rule_met(&candidate.mine.stack, &previous.stack)?;
-            reporter.offer(candidate.mine, previous, met)?;
+            reporter.offer(candidate.mine, previous)?;
         }
         Ok(())
     }

@@ -5,6 +5,7 @@
 //! calls, and `thread_events` with the definitions. The layers above use the clauses, which are in the terms of `thread_events`:
 //! what the watcher is after the event (`watcher_after`), and what is left at its place (`ObjectsAfter`, `desk_after`, `Attaches`).
 //! So its laws hold of whoever calls, one thread at a time or many at once.
+//! `hear_at_object` and `hear_at_desk` choose by the event's kind; who has chosen already makes the call of that kind.
 #![tactic(auto)]
 
 mod hear;

@@ -70,6 +70,10 @@ new_watched tid limits =
 abbrev pub with_room : Watched → Watched
 with_room w = record w { trace = with_spare 4 w.trace }
 
+-- so many events may be noted before the next call of `room`
+abbrev pub with_events : ℕ → Watched → Watched
+with_events events w = record w { trace = with_spare events w.trace }
+
 -- What may be noted of a thread with so many frames: accesses of at most 65,536 bytes, an Enter where there
 -- are fewer than 4,096 frames, and every other event.
 abbrev pub CanBeNoted : ℕ → Event → Type 0

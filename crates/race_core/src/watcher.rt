@@ -1,5 +1,5 @@
 // One thread's watcher.
-ghost use Rattle.std.specs.Prelude.{◌≡◌, ◌≢◌, ◌↔◌, ◌+◌, ◌-◌, ◌^◌, ◌<◌, ◌≤◌, ℕ, Some, None, List, length, slice_index, position, is_none, IfOk, OnOk, OnErr, IsSome, IsSomeAnd};
+ghost use Rattle.std.specs.Prelude.{◌≡◌, ◌≢◌, ◌↔◌, ◌+◌, ◌-◌, ◌^◌, ◌<◌, ◌≤◌, ℕ, Some, None, List, length, slice_index, position, is_none, IfOk, IsOk, OnOk, OnErr, IsSome, IsSomeAnd};
 ghost use Rattle.std.specs.Borrow.{sem};
 ghost use Rattle.run_record.specs.declared.entry.Label.{Label};
 ghost use Rattle.run_laws.specs.Accesses.{Access, access_of};
@@ -7,7 +7,7 @@ ghost use Rattle.run_laws.specs.Words.{word_of, cell_for};
 ghost use Rattle.run_laws.specs.Candidates.{is_race};
 ghost use Rattle.shadow_word.specs.Cells.{cell_in};
 ghost use Rattle.shadow_word.specs.Decisions.{AreInClock};
-ghost use Rattle.race_core.specs.Watched.{AreWatcherLimits, CanBeNoted, IsWatched, IsLabel, new_watched, with_room, noted, labelled, unlabelled, next_label, raised, in_era, side_of, cell_of};
+ghost use Rattle.race_core.specs.Watched.{AreWatcherLimits, CanBeNoted, IsWatched, IsLabel, new_watched, with_room, with_events, noted, labelled, unlabelled, next_label, raised, in_era, side_of, cell_of};
 ghost use Rattle.race_core.specs.Walk.{planned};
 ghost use Rattle.run_laws.specs.Window.{Labelled};
 ghost use Rattle.trace_parts.specs.Spelling.{told, IsTraceable};
@@ -86,6 +86,21 @@ impl Watcher {
         ensures err { OnErr result (self.new ≡ self.old) }
     {
         self.trace.room()
+    }
+
+    /// Makes room for one event at least: where there is some it changes nothing, and else it makes room for four. After an
+    /// error nothing has changed.
+    #[inline(always)]
+    pub fn keep_room(&mut self) -> Result<(), NoMemory>
+        ensures some { OnOk result (0 < self.new.trace.spare) }
+        ensures rest { OnOk result (self.new ≡ with_events self.new.trace.spare self.old) }
+        ensures enough { 0 < self.old.trace.spare → IsOk result × (self.new ≡ self.old) }
+        ensures err { OnErr result (self.new ≡ self.old) }
+    {
+        if self.trace.spare() > 0 {
+            return Ok(());
+        }
+        self.room()
     }
 
     /// The thread makes an event: its stack, its locks and its trace go on. It takes no memory.

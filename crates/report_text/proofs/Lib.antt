@@ -1,4 +1,4 @@
 pub mod StackLaws
-pub mod AnswerLaws
+pub mod FateLaws
 pub mod OfferLaws
 pub mod TextLaws

@@ -2,13 +2,12 @@
 use Rattle.std.proofs.Common.{◌≡◌, ℕ, suc, ◌+◌, nat_lt, not, Bool, true, false, ◌||◌, cond, List, [], ◌∷◌, ◌++◌, length, map, position, Option, Some, None, is_some, refl, ap, sym, ◌∙◌, arith, lt-ltb, length-append}
 use Rattle.std.proofs.lemmas.Bool.Decides.{nat_tests}
 use Rattle.std.specs.List.{list_any, prefix_len, position_or_len}
+use Rattle.std.specs.Option.{option_map, option_map_or}
 use Rattle.run_record.specs.declared.report.Report.{Report}
 use Rattle.run_laws.specs.Reports.{Kept, is_equal, kept_after}
-use Rattle.report_text.specs.declared.stack_pair.StackPair.{StackPair}
-use Rattle.report_text.specs.declared.reporter.Offered.TheVariants.{Reported, Equal}
+use Rattle.report_text.specs.declared.reporter.Offered.TheVariants.{Reported, Suppressed, Equal}
 use Rattle.report_text.specs.Pairs.{stacks_of, same_stacks}
-use Rattle.report_text.specs.Offers.{offered}
-use Rattle.indexmap.specs.IndexSet.{insert_key}
+use Rattle.report_text.specs.Offers.{offered, is_met}
 
 prefix_len-map : {A B : Type 0} (f : A → B) (p : B → Bool) (xs : List A) → prefix_len p (map f xs) ≡ prefix_len (λ x. p (f x)) xs
 prefix_len-map f p [] = refl
@@ -43,47 +42,56 @@ is_some_cond false x = refl
 pub is_some_position : {X : Type 0} (p : X → Bool) (xs : List X) → is_some (position p xs) ≡ list_any p xs
 is_some_position p xs = is_some_cond (nat_lt (position_or_len p xs) (length xs)) (position_or_len p xs) ∙ some_stops p xs
 
-module _ (kept : Kept) (met : Option ℕ) (r : Report) (pairs : List StackPair) (none : met ≡ None) (pairs_are : pairs ≡ map stacks_of kept.reports) where
-  found_at : position (same_stacks (stacks_of r)) pairs ≡ position (is_equal r) kept.reports
-  found_at = ap (position (same_stacks (stacks_of r))) pairs_are ∙ position_stacks r kept.reports
+module _ (rule_of : Option (List ℕ) → Option (List ℕ) → Option ℕ) (kept : Kept) (r : Report) where
+  abbrev met : Option ℕ
+  met = rule_of r.mine.stack r.previous.stack
 
-  -- an equal report is found
-  pub offered-equal : (at : ℕ) → position (same_stacks (stacks_of r)) pairs ≡ Some at → Equal (at + 1) ≡ offered kept met r
-  offered-equal at found = rw (none, sym found_at ∙ found) refl
+  -- the stacks meet a rule
+  pub offered-met : (rule : ℕ) → met ≡ Some rule → Suppressed rule ≡ offered kept met r
+  offered-met rule is = rw is refl
 
-  pub kept_after-equal : (at : ℕ) → position (same_stacks (stacks_of r)) pairs ≡ Some at → (meets : Option (List ℕ) → Option (List ℕ) → Bool) → meets r.mine.stack r.previous.stack ≡ is_some met → record kept { equal = kept.equal + 1 } ≡ kept_after meets kept r
-  kept_after-equal at found meets m =
-      let unmet : meets r.mine.stack r.previous.stack ≡ false = m ∙ ap is_some none in
-      let any : list_any (is_equal r) kept.reports ≡ true = sym (is_some_position (is_equal r) kept.reports) ∙ ap is_some (sym found_at ∙ found) in
-      rw (unmet, any) refl
+  pub kept_after-met : (rule : ℕ) → met ≡ Some rule → record kept { suppressed = kept.suppressed + 1 } ≡ kept_after (is_met rule_of) kept r
+  kept_after-met rule is = rw is refl
 
-  -- no equal report is found
-  pub offered-new : position (same_stacks (stacks_of r)) pairs ≡ None → Reported (length kept.reports + 1) ≡ offered kept met r
-  offered-new absent = rw (none, sym found_at ∙ absent) refl
+  module _ (none : met ≡ None) where
+    equal_is : position (same_stacks (stacks_of r)) (map stacks_of kept.reports) ≡ position (is_equal r) kept.reports
+    equal_is = position_stacks r kept.reports
 
-  pub kept_after-new : position (same_stacks (stacks_of r)) pairs ≡ None → (meets : Option (List ℕ) → Option (List ℕ) → Bool) → meets r.mine.stack r.previous.stack ≡ is_some met → record kept { reports = kept.reports ++ r ∷ [] } ≡ kept_after meets kept r
-  kept_after-new absent meets m =
-      let unmet : meets r.mine.stack r.previous.stack ≡ false = m ∙ ap is_some none in
-      let no : list_any (is_equal r) kept.reports ≡ false = sym (is_some_position (is_equal r) kept.reports) ∙ ap is_some (sym found_at ∙ absent) in
-      rw (unmet, no) refl
+    unmet : is_met rule_of r.mine.stack r.previous.stack ≡ false
+    unmet = ap is_some none
 
--- what was found for two stacks is found for equal ones
-pub found_with : (m n a b : Option (List ℕ)) (pairs : List StackPair) (o : Option ℕ) → m ≡ a → n ≡ b → o ≡ position (same_stacks (record { mine = m; previous = n })) pairs → position (same_stacks (record { mine = a; previous = b })) pairs ≡ o
-found_with m n a b pairs o e f h = sym (h ∙ (λ i. position (same_stacks (record { mine = e i; previous = f i })) pairs))
+    -- a report has the same stacks
+    module _ (number : ℕ) (told : option_map (λ at. at + 1) (position (same_stacks (stacks_of r)) (map stacks_of kept.reports)) ≡ Some number) where
+      pub offered-equal : Equal number ≡ offered kept met r
+      offered-equal = rw none (by (position (is_equal r) kept.reports) (ap (option_map (λ at. at + 1)) (sym equal_is) ∙ told))
+        where
+          by : (o : Option ℕ) → option_map (λ at. at + 1) o ≡ Some number → Equal number ≡ option_map_or (λ at. Equal (at + 1)) o (Reported (length kept.reports + 1))
+          by None e = absurd cc
+          by (Some at) e = (let n : at + 1 ≡ number = cc in ap Equal (sym n))
 
--- a pair that is not there goes last
-pub added : (pairs : List StackPair) (p : StackPair) → position (same_stacks p) pairs ≡ None → insert_key same_stacks pairs p ≡ pairs ++ p ∷ []
-added pairs p absent =
-    let no : list_any (same_stacks p) pairs ≡ false = sym (is_some_position (same_stacks p) pairs) ∙ ap is_some absent in
-    rw no refl
+      pub kept_after-equal : record kept { equal = kept.equal + 1 } ≡ kept_after (is_met rule_of) kept r
+      kept_after-equal =
+          let some : is_some (position (is_equal r) kept.reports) ≡ true = by (position (is_equal r) kept.reports) (ap (option_map (λ at. at + 1)) (sym equal_is) ∙ told) in
+          let any : list_any (is_equal r) kept.reports ≡ true = sym (is_some_position (is_equal r) kept.reports) ∙ some in
+          rw (unmet, any) refl
+        where
+          by : (o : Option ℕ) → option_map (λ at. at + 1) o ≡ Some number → is_some o ≡ true
+          by None e = absurd cc
+          by (Some at) e = refl
+
+    -- no report has them
+    module _ (absent : position (same_stacks (stacks_of r)) (map stacks_of kept.reports) ≡ None) where
+      pub offered-new : Reported (length kept.reports + 1) ≡ offered kept met r
+      offered-new = rw (none, sym equal_is ∙ absent) refl
+
+      pub kept_after-new : record kept { reports = kept.reports ++ r ∷ [] } ≡ kept_after (is_met rule_of) kept r
+      kept_after-new =
+          let no : list_any (is_equal r) kept.reports ≡ false = sym (is_some_position (is_equal r) kept.reports) ∙ ap is_some (sym equal_is ∙ absent) in
+          rw (unmet, no) refl
 
 pub map-push : {A B : Type 0} (f : A → B) (xs : List A) (x : A) → map f (xs ++ x ∷ []) ≡ map f xs ++ f x ∷ []
 map-push f [] x = refl
 map-push f (y ∷ ys) x = ap (λ rest. f y ∷ rest) (map-push f ys x)
-
--- a report is kept with its pair
-pub kept_pair : (old new : List StackPair) (reports : List Report) (p : StackPair) (r : Report) → old ≡ map stacks_of reports → new ≡ old ++ p ∷ [] → p ≡ stacks_of r → new ≡ map stacks_of (reports ++ r ∷ [])
-kept_pair old new reports p r before after pair = after ∙ (λ i. before i ++ pair i ∷ []) ∙ sym (map-push stacks_of reports r)
 
 -- a report whose stacks are put back
 pub whole : (r : Report) (m n : Option (List ℕ)) → m ≡ r.mine.stack → n ≡ r.previous.stack → ◌≡◌ {A = Report} (record { mine = record { tid = r.mine.tid; read = r.mine.read; atomic = r.mine.atomic; addr = r.mine.addr; size = r.mine.size; stack = m; locks = r.mine.locks }; previous = record { tid = r.previous.tid; read = r.previous.read; atomic = r.previous.atomic; addr = r.previous.addr; size = r.previous.size; stack = n; locks = r.previous.locks } }) r

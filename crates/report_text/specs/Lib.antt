@@ -1,4 +1,5 @@
 pub mod Pairs
+pub mod Fates
 pub mod Offers
 pub mod Texts
 pub mod Status

@@ -6,6 +6,11 @@ use Rattle.run_laws.specs.Reports.{Kept, is_equal}
 use Rattle.report_text.specs.declared.reporter.Offered.{Offered}
 use Rattle.report_text.specs.declared.reporter.Offered.TheVariants.{Reported, Suppressed, Equal}
 
+-- What contracts see of a reporter: the rules, and what is kept of the offered races.
+pub record Reporting (S : Type 0) : Type 0 where
+  pub rules : S
+  pub kept : Kept
+
 -- the answer where the stacks meet this rule first, or none: reports are numbered from 1, and the first equal one counts
 abbrev pub offered : Kept → Option ℕ → Report → Offered
 offered kept (Some rule) r = Suppressed rule

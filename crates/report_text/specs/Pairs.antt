@@ -26,10 +26,6 @@ stack_hash (Some places) = folding.finish (fold folding.write folding.initial (f
 abbrev pub pair_writes : StackPair → fed.HashWrites
 pair_writes p = fed.u64 ((stack_hash p.mine + stack_hash p.previous) % 2 ^ 64)
 
--- it is what is answered about that pair
-abbrev pub IsAnswer : (Option (List ℕ) → Option (List ℕ) → Option ℕ) → StackPair × Option ℕ → Type 0
-IsAnswer rule_of e = e.1 ≡ rule_of e.0.mine e.0.previous
-
 -- the test decides whether two stacks are the same
 pub same_places-refl : (ps : List ℕ) → same_places ps ps ≡ true
 same_places-refl [] = refl

@@ -2,7 +2,7 @@
 ghost use Rattle.std.specs.Prelude.{◌≡◌};
 ghost use Rattle.report_text.specs.Offers.{offers};
 
-use crate::{Asked, Offered, Reporter, Suppressions, status_of, summary, text_of};
+use crate::{Offered, Reporter, Suppressions, Unsuppressed, status_of, summary, text_of};
 use run_record::{
     Bytes, Entries, Finished, GuestEnd, KeptLock, LastState, Locks, NoMemory, Places, Record,
     Report, Reports, Side,
@@ -224,25 +224,24 @@ fn race_of(alloc: Global, mine: u8, previous: u8) -> Result<Report, AllocError> 
     Ok(Report { mine, previous })
 }
 
-// The stacks of a race, the rule that it meets, and what becomes of it.
-const RACES: [(u8, u8, Option<usize>, Offered); 7] = [
-    (1, 2, None, Offered::Reported(1)),
-    (1, 0, None, Offered::Reported(2)),
-    (2, 1, None, Offered::Equal(1)),
-    (1, 2, Some(7), Offered::Suppressed(7)),
-    (3, 2, None, Offered::Reported(3)),
-    (0, 1, None, Offered::Equal(2)),
-    (1, 1, None, Offered::Reported(4)),
+// The stacks of a race, and what becomes of it.
+const RACES: [(u8, u8, Offered); 6] = [
+    (1, 2, Offered::Reported(1)),
+    (1, 0, Offered::Reported(2)),
+    (2, 1, Offered::Equal(1)),
+    (3, 2, Offered::Reported(3)),
+    (0, 1, Offered::Equal(2)),
+    (1, 1, Offered::Reported(4)),
 ];
 
 // Whether each race becomes what is wanted.
-fn offer_all(alloc: Global, reporter: &mut Reporter) -> Result<bool, NoMemory>
-    requires { offers reporter.old ≡ 0 }
+fn offer_all(alloc: Global, reporter: &mut Reporter<'_, Unsuppressed>) -> Result<bool, NoMemory>
+    requires { offers reporter.old.kept ≡ 0 }
 {
     let mut as_wanted = true;
-    for (mine, previous, met, wanted) in RACES {
+    for (mine, previous, wanted) in RACES {
         let Report { mine, previous } = race_of(alloc, mine, previous)?;
-        let answer = reporter.offer(mine, previous, met)?;
+        let answer = reporter.offer(mine, previous)?;
         as_wanted = as_wanted && answer == wanted;
     }
     Ok(as_wanted)
@@ -250,10 +249,10 @@ fn offer_all(alloc: Global, reporter: &mut Reporter) -> Result<bool, NoMemory>
 
 #[test]
 fn what_becomes_of_races(rt: HostRuntime) -> Result<(), Fail> {
-    let mut reporter = Reporter::new(rt.alloc())?;
+    let mut reporter = Reporter::new(rt.alloc(), &Unsuppressed);
     let as_wanted = offer_all(rt.alloc(), &mut reporter)?;
     assert!(rt; as_wanted);
-    assert!(rt; reporter.suppressed() == 1 && reporter.equal() == 2);
+    assert!(rt; reporter.suppressed() == 0 && reporter.equal() == 2);
     assert!(rt; reporter.reports().len() == 4);
     assert!(rt; reporter.into_reports().len() == 4);
     Ok(())
@@ -290,18 +289,31 @@ const ASKED: [(u8, u8, u32); 8] = [
     (0, 0, 4),
 ];
 
+// Whether each race is suppressed, and the rules were asked as often as is wanted.
+fn suppress_all(
+    alloc: Global,
+    rules: &Counting,
+    reporter: &mut Reporter<'_, Counting>,
+) -> Result<bool, NoMemory>
+    requires { offers reporter.old.kept ≡ 0 }
+{
+    let mut as_wanted = true;
+    for (mine, previous, times) in ASKED {
+        let Report { mine, previous } = race_of(alloc, mine, previous)?;
+        let answer = reporter.offer(mine, previous)?;
+        as_wanted = as_wanted && answer == Offered::Suppressed(7) && rules.times.get() == times;
+    }
+    Ok(as_wanted)
+}
+
 #[test]
 fn rules_are_asked_once_about_each_pair(rt: HostRuntime) -> Result<(), Fail> {
-    let alloc = rt.alloc();
     let rules = Counting {
         times: Cell::new(0),
     };
-    let mut asked = Asked::new(alloc, &rules);
-    for (mine, previous, times) in ASKED {
-        let race = race_of(alloc, mine, previous)?;
-        let met = asked.rule_met(&race.mine.stack, &race.previous.stack)?;
-        assert!(rt; met == Some(7));
-        assert!(rt; rules.times.get() == times);
-    }
+    let mut reporter = Reporter::new(rt.alloc(), &rules);
+    let as_wanted = suppress_all(rt.alloc(), &rules, &mut reporter)?;
+    assert!(rt; as_wanted);
+    assert!(rt; reporter.suppressed() == 8 && reporter.reports().is_empty());
     Ok(())
 }

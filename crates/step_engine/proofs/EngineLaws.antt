@@ -173,15 +173,14 @@ makes_turns file limits old new d made starved end can given t rest why steps_is
 -- ---- what bounds say
 
 pub offers_fit : (file : List ℕ) (limits : Limits) (old mid : Engine) (d : chosen.Due) (end : TurnEnd) (kept : Kept) (n : ℕ) →
-    IsReady file limits old → CanRound old d → (t : MakesTurns file limits old mid d end) → kept ≡ old.reporter →
-    offers old.reporter + n ≤ length (moments_by old.round (old.entries ++ t.part) mid.watched) → offers kept + n < 4294967295
-offers_fit file limits old mid d end kept n r can t same few =
+    IsReady file limits old → CanRound old d → (t : MakesTurns file limits old mid d end) →
+    offers kept + n ≤ length (moments_by old.round (old.entries ++ t.part) mid.watched) → offers kept + n < 4294967295
+offers_fit file limits old mid d end kept n r can t few =
     let a : length (moments_by old.round old.entries old.watched) + 7 * old.remaining ≤ 56000000 + old.round = r.bounded.moments in
     let b : old.round + (2 * old.remaining + none_free old.watched.detector.desk.queue) ≤ 16000001 = r.bounded.rounds in
     let g : length (moments_by old.round (old.entries ++ t.part) mid.watched) ≤ length (moments_by old.round old.entries old.watched) + 7 * end.steps = t.grown in
     let x : end.steps ≤ d.given = t.no_more in
     let y : d.given ≤ old.remaining = can.within in
-    let z : offers kept ≡ offers old.reporter = ap offers same in
     omega arith
 
 -- ---- the end of a round
@@ -288,7 +287,7 @@ module _ (file : List ℕ) (limits : Limits) (old mid : Engine) (d : chosen.Due)
 
 -- the round is over, and the next one may begin with that detector
 pub made_round :
-    (file : List ℕ) (limits : Limits) (old mid : Engine) (d : chosen.Due) (end : TurnEnd) (next : Detected) (last_era : ℕ) (reporter : Kept) →
+    (file : List ℕ) (limits : Limits) (old mid : Engine) (d : chosen.Due) (end : TurnEnd) (next : Detected) (last_era : ℕ) →
     CanRound old d → 0 < d.given → IsReady file limits old → (t : MakesTurns file limits old mid d end) →
     IsBetween file limits (old.round + 1) (old.entries ++ t.part) (record { machine = mid.watched.machine; detector = next }) →
     last_era ≡ old.watched.detector.era → next.era ≡ (if end.starved then old.watched.detector.era + 1 else old.watched.detector.era) →
@@ -303,9 +302,8 @@ pub made_round :
       round = old.round + 1;
       last_era = last_era;
       remaining = old.remaining - end.steps;
-      reporter = reporter;
     }) d
-made_round file limits old mid d end next last_era reporter can given r t between l era_is filled =
+made_round file limits old mid d end next last_era can given r t between l era_is filled =
     let some_left : d.given ≤ old.remaining = can.within in
     let few : end.steps ≤ d.given = t.no_more in
     let raised : next.era ≤ old.watched.detector.era + 1 = raised_by_one end.starved old.watched.detector.era next.era era_is in
@@ -347,17 +345,11 @@ told_era meets file old new before after t = ap (λ (x : Detected). x.era) t.non
 pub told_slots : (meets : Option (List ℕ) → Option (List ℕ) → Bool) (file : List ℕ) (old new : Detected) (before after : Kept) → TellsAll meets file old new before after → length new.desk.slots ≡ length old.desk.slots
 told_slots meets file old new before after t = ap (λ (x : Detected). length x.desk.slots) t.none_waits
 
-module _ (meets : Option (List ℕ) → Option (List ℕ) → Bool) (file : List ℕ) (limits : Limits) (old mid : Engine) (d : chosen.Due) (end : TurnEnd) (det : Detected) (last_era : ℕ) (reporter : Kept)
+module _ (meets : Option (List ℕ) → Option (List ℕ) → Bool) (file : List ℕ) (limits : Limits) (old mid : Engine) (d : chosen.Due) (end : TurnEnd) (det : Detected) (last_era : ℕ) (before reporter : Kept)
     (can : CanRound old d) (given : 0 < d.given) (r : IsReady file limits old) (t : MakesTurns file limits old mid d end)
-    (tells : TellsAll meets file mid.watched.detector det mid.reporter reporter) (last_is : last_era ≡ det.era) where
-  reporter_is : mid.reporter ≡ old.reporter
-  reporter_is = ap (λ (e : Engine). e.reporter) t.rest
-
-  tells_old : TellsAll meets file mid.watched.detector det old.reporter reporter
-  tells_old = subst (λ (k : Kept). TellsAll meets file mid.watched.detector det k reporter) reporter_is tells
-
+    (tells : TellsAll meets file mid.watched.detector det before reporter) (last_is : last_era ≡ det.era) where
   era_is : det.era ≡ old.watched.detector.era
-  era_is = told_era meets file mid.watched.detector det mid.reporter reporter tells ∙ t.at_end.era
+  era_is = told_era meets file mid.watched.detector det before reporter tells ∙ t.at_end.era
 
   abbrev Makes : Detected → Engine → Type 0
   Makes next m = MakesRound file limits old
@@ -370,21 +362,20 @@ module _ (meets : Option (List ℕ) → Option (List ℕ) → Bool) (file : List
         round = m.round + 1;
         last_era = last_era;
         remaining = m.remaining - end.steps;
-        reporter = reporter;
       }) d
 
   pub round-starved : (next : Detected) → end.starved ≡ true → next ≡ after_era det → Makes next mid
   round-starved next e n =
       subst (λ (x : Detected). Makes x mid) (sym n) (subst (Makes (after_era det)) (sym t.rest)
-      (made_round file limits old mid d end (after_era det) last_era reporter can given r t
-      (next_era meets file limits old.round old.entries t.part old.watched mid.watched det old.reporter reporter t.at_end tells_old)
+      (made_round file limits old mid d end (after_era det) last_era can given r t
+      (next_era meets file limits old.round old.entries t.part old.watched mid.watched det before reporter t.at_end tells)
       (last_is ∙ era_is) (ap (λ (x : ℕ). x + 1) era_is ∙ rw e refl)
       (λ s. none_free_filled (length det.desk.slots) filled)))
     where
       filled : 1 ≤ length det.desk.slots
       filled =
           let a : length mid.watched.detector.desk.slots ≡ limits.slots = t.at_end.follows.stands.desk.desk.slots.all_slots in
-          let b : length det.desk.slots ≡ length mid.watched.detector.desk.slots = told_slots meets file mid.watched.detector det mid.reporter reporter tells in
+          let b : length det.desk.slots ≡ length mid.watched.detector.desk.slots = told_slots meets file mid.watched.detector det before reporter tells in
           let x = t.at_end.follows.limits_are.some_harts in
           let y = t.at_end.follows.limits_are.harts_have_slots in
           omega arith
@@ -392,12 +383,12 @@ module _ (meets : Option (List ℕ) → Option (List ℕ) → Bool) (file : List
   pub round-whole : end.starved ≡ false → Makes det mid
   round-whole e =
       subst (Makes det) (sym t.rest)
-      (made_round file limits old mid d end det last_era reporter can given r t
-      (next_round meets file limits old.round old.entries t.part old.watched mid.watched det old.reporter reporter t.at_end tells_old)
+      (made_round file limits old mid d end det last_era can given r t
+      (next_round meets file limits old.round old.entries t.part old.watched mid.watched det before reporter t.at_end tells)
       (last_is ∙ era_is) (era_is ∙ rw e refl) (λ s. absurd cc))
 
   -- the reports of the round were told after those of the earlier rounds
-  pub round_told : image_of file ≡ Ok file → Told meets file limits old.entries old.reporter → Told meets file limits mid.entries reporter
-  round_told accepted before =
+  pub round_told : image_of file ≡ Ok file → Told meets file limits old.entries before → Told meets file limits mid.entries reporter
+  round_told accepted earlier =
       subst (λ (es : List Entry). Told meets file limits es reporter) (sym (ap (λ (e : Engine). e.entries) t.rest))
-      (told_all meets file limits old.round old.entries t.part old.watched mid.watched det old.reporter reporter accepted before t.at_end tells_old)
+      (told_all meets file limits old.round old.entries t.part old.watched mid.watched det before reporter accepted earlier t.at_end tells)

@@ -36,16 +36,14 @@ use Rattle.step_engine.proofs.EngineLaws.{at_most_one, length_in}
 -- ---- the start
 
 pub ready-start :
-    (file : List ℕ) (limits : Limits) (w : WatchedMachine) (entries : List Entry) (part : Part) (reporter : Kept) → AreLimits limits → Follows file limits 0 0 [] w → w.detector.era ≡ 0 →
-    entries ≡ [] → reporter ≡ record { reports = []; suppressed = 0; equal = 0 } →
-    IsReady file limits (record { watched = w; entries = entries; part = part; turn = 0; last = None; round = 0; last_era = 0; remaining = limits.steps; reporter = reporter })
-ready-start file limits w entries part reporter are follows era none new =
-    subst (λ (es : List Entry). IsReady file limits (record { watched = w; entries = es; part = part; turn = 0; last = None; round = 0; last_era = 0; remaining = limits.steps; reporter = reporter })) (sym none)
-    (subst (λ (k : Kept). IsReady file limits (record { watched = w; entries = []; part = part; turn = 0; last = None; round = 0; last_era = 0; remaining = limits.steps; reporter = k })) (sym new)
+    (file : List ℕ) (limits : Limits) (w : WatchedMachine) (entries : List Entry) (part : Part) → AreLimits limits → Follows file limits 0 0 [] w → w.detector.era ≡ 0 → entries ≡ [] →
+    IsReady file limits (record { watched = w; entries = entries; part = part; turn = 0; last = None; round = 0; last_era = 0; remaining = limits.steps })
+ready-start file limits w entries part are follows era none =
+    subst (λ (es : List Entry). IsReady file limits (record { watched = w; entries = es; part = part; turn = 0; last = None; round = 0; last_era = 0; remaining = limits.steps })) (sym none)
     (let one = at_most_one w.detector.desk.queue in
     let few = are.few_steps in
     let long = length_in 0 w.detector.era [] in
-    record { between = at_start file limits w follows; bounded = record { rounds = omega arith; eras = omega arith; moments = omega arith } }))
+    record { between = at_start file limits w follows; bounded = record { rounds = omega arith; eras = omega arith; moments = omega arith } })
 
 -- ---- the next round
 
@@ -87,11 +85,11 @@ module _ (file : List ℕ) (limits : Limits) (plan : List Turn) (e : Engine) (re
 
 -- ---- the whole run
 
-module _ (file : List ℕ) (limits : Limits) (plan : List Turn) (meets : Option (List ℕ) → Option (List ℕ) → Bool) (e : Engine) (end : GuestEnd) (f : Finished) (accepted : image_of file ≡ Ok file) (ready : IsReady file limits e)
-    (told : Told meets file limits e.entries e.reporter)
+module _ (file : List ℕ) (limits : Limits) (plan : List Turn) (meets : Option (List ℕ) → Option (List ℕ) → Bool) (e : Engine) (kept : Kept) (end : GuestEnd) (f : Finished) (accepted : image_of file ≡ Ok file) (ready : IsReady file limits e)
+    (told : Told meets file limits e.entries kept)
     (reached : Reaches OneByOne limits (bare_of file limits.harts) plan (progress e plan)) (ends : Ends OneByOne limits (bare_of file limits.harts) (progress e plan) end)
     (entries_are : f.history.entries ≡ e.entries) (last_is : f.last ≡ record { threads = length e.watched.machine.threads; rounds = e.round; era = e.last_era; end = end })
-    (kept_is : kept_in f ≡ e.reporter) (output_is : f.output ≡ e.watched.machine.output) where
+    (kept_is : kept_in f ≡ kept) (output_is : f.output ≡ e.watched.machine.output) where
   whole : IsWholeRun OneByOne limits plan (bare_of file limits.harts) e.entries f.last
   whole = subst (IsWholeRun OneByOne limits plan (bare_of file limits.harts) e.entries) (sym last_is)
       (record {

@@ -1,5 +1,5 @@
 // The rounds of a run.
-ghost use Rattle.std.specs.Prelude.{true, ◌≡◌, ◌<◌, ◌≤◌, ◌+◌, ℕ, Bool, Option, IfOk, OnOk, IfSome, List, length, drop, option_map};
+ghost use Rattle.std.specs.Prelude.{true, ◌≡◌, ◌<◌, ◌≤◌, ◌+◌, ℕ, Bool, Option, IfOk, OnOk, IfSome, List, [], length, drop, option_map};
 ghost use Rattle.run_record.specs.declared.plan.Turn.{Turn};
 ghost use Rattle.bare_machine.specs.World.{lives};
 ghost use Rattle.run_laws.specs.Faithful.{OneByOne};
@@ -15,7 +15,7 @@ ghost use Rattle.whole_runs.specs.Run.{IsRun};
 use crate::turns::{add_live, due_turn, keep_live, next_live};
 use elf_image::Image;
 use guest_code::Code;
-use report_text::{Asked, Reporter, Suppressions};
+use report_text::{Reporter, Suppressions};
 use run_record::{
     Bytes, Entries, Finished, GuestEnd, LastState, Limits, NoMemory, Plan, Record, Turn,
 };
@@ -35,7 +35,6 @@ struct Engine {
     // The era of the last round.
     last_era: u32,
     remaining: u32,
-    reporter: Reporter,
 }
 
 /// The next round: whose it is, how many instructions it gives, and where the plan goes on.
@@ -52,7 +51,7 @@ impl Engine {
         ensures start { IfOk result (λ e. (plan : List Turn) → progress e plan ≡ rounds.at_start limits.now plan) }
         ensures turn { IfOk result (λ e. e.turn ≡ 0) }
         ensures ready { IfOk result (IsReady image.now limits.now) }
-        ensures told { IfOk result (λ e. (meets : Option (List ℕ) → Option (List ℕ) → Bool) → Told meets image.now limits.now e.entries e.reporter) }
+        ensures told { IfOk result (λ e. (meets : Option (List ℕ) → Option (List ℕ) → Bool) → Told meets image.now limits.now e.entries (record { reports = []; suppressed = 0; equal = 0 })) }
     {
         Ok(Engine {
             watched: WatchedMachine::new(alloc, image, limits)?,
@@ -63,7 +62,6 @@ impl Engine {
             round: 0,
             last_era: 0,
             remaining: limits.steps,
-            reporter: Reporter::new(alloc)?,
         })
     }
 
@@ -136,23 +134,21 @@ impl Engine {
         alloc: Global,
         image: &Image<'_>,
         code: &Code<'_>,
-        suppressions: &mut Asked<'_, S>,
+        reporter: &mut Reporter<'_, S>,
         due: Due,
     ) -> Result<(), NoMemory>
         requires code { code.now ≡ image.now }
         requires can { CanRound self.old due }
         requires some { 0 < due.given }
         requires ready { IsReady image.now (limits_of self.old) self.old }
-        requires told { Told (is_met (S.rule_met suppressions.old)) image.now (limits_of self.old) self.old.entries self.old.reporter }
+        requires told { Told (is_met (S.rule_met reporter.old.rules)) image.now (limits_of self.old) self.old.entries reporter.old.kept }
         ensures made { OnOk result (MakesRound image.now (limits_of self.old) self.old self.new due) }
-        ensures told { OnOk result (Told (is_met (S.rule_met suppressions.old)) image.now (limits_of self.old) self.new.entries self.new.reporter) }
-        ensures rules { suppressions.new ≡ suppressions.old }
+        ensures told { OnOk result (Told (is_met (S.rule_met reporter.old.rules)) image.now (limits_of self.old) self.new.entries reporter.new.kept) }
+        ensures rules { reporter.new.rules ≡ reporter.old.rules }
     {
         image.accepted();
         let end = self.turns(alloc, image, code, due)?;
-        self.watched
-            .detector
-            .tell(alloc, image, suppressions, &mut self.reporter)?;
+        self.watched.detector.tell(alloc, image, reporter)?;
         self.last_era = self.watched.detector.era();
         self.turn = due.turn;
         self.last = Some(due.tid);
@@ -172,16 +168,16 @@ impl Engine {
         code: &Code<'_>,
         limits: &Limits,
         plan: &[Turn],
-        suppressions: &mut Asked<'_, S>,
+        reporter: &mut Reporter<'_, S>,
     ) -> Result<GuestEnd, NoMemory>
         requires code { code.now ≡ image.now }
         requires reached { rounds.Reaches OneByOne limits.now (bare_of image.now limits.now.harts) plan.now (progress self.old plan.now) }
         requires turn { self.old.turn ≤ length plan.now }
         requires ready { IsReady image.now limits.now self.old }
-        requires told { Told (is_met (S.rule_met suppressions.old)) image.now limits.now self.old.entries self.old.reporter }
+        requires told { Told (is_met (S.rule_met reporter.old.rules)) image.now limits.now self.old.entries reporter.old.kept }
         ensures reached { OnOk result (rounds.Reaches OneByOne limits.now (bare_of image.now limits.now.harts) plan.now (progress self.new plan.now)) }
         ensures ready { OnOk result (IsReady image.now limits.now self.new) }
-        ensures told { OnOk result (Told (is_met (S.rule_met suppressions.old)) image.now limits.now self.new.entries self.new.reporter) }
+        ensures told { OnOk result (Told (is_met (S.rule_met reporter.old.rules)) image.now limits.now self.new.entries reporter.new.kept) }
         ensures ends { IfOk result (rounds.Ends OneByOne limits.now (bare_of image.now limits.now.harts) (progress self.new plan.now)) }
     {
         let mut live = Vec::new(alloc);
@@ -197,7 +193,7 @@ impl Engine {
                 return Ok(GuestEnd::Budget);
             }
             let made = self.watched.machine.threads();
-            self.round(alloc, image, code, suppressions, due)?;
+            self.round(alloc, image, code, reporter, due)?;
             keep_live(&self.watched.machine, &mut live);
             add_live(&self.watched.machine, &mut live, made)?;
         }
@@ -218,29 +214,22 @@ pub fn run_plan<S: Suppressions>(
 {
     image.accepted();
     let mut engine = Engine::new(alloc, image, limits)?;
-    let mut suppressions = Asked::new(alloc, suppressions);
+    let mut reporter = Reporter::new(alloc, suppressions);
     let code = Code::new(alloc, image)?;
-    let end = engine.run(
-        alloc,
-        image,
-        &code,
-        limits,
-        plan.as_slice(),
-        &mut suppressions,
-    )?;
+    let end = engine.run(alloc, image, &code, limits, plan.as_slice(), &mut reporter)?;
     let last = LastState {
         threads: engine.watched.machine.threads(),
         rounds: engine.round,
         era: engine.last_era,
         end,
     };
-    let suppressed = engine.reporter.suppressed();
-    let equal = engine.reporter.equal();
+    let suppressed = reporter.suppressed();
+    let equal = reporter.equal();
     Ok(Finished {
         history: Record {
             entries: engine.entries,
         },
-        reports: engine.reporter.into_reports(),
+        reports: reporter.into_reports(),
         suppressed,
         equal,
         output: Bytes::from_vec(engine.watched.machine.into_output()),

@@ -3,7 +3,7 @@ use Rattle.std.proofs.Common.{◌≡◌, ℕ, ◌+◌, Bool, true, false, Option
 use Rattle.std.specs.Prelude.{is_some, IfSome, IfNone}
 use Rattle.run_record.specs.declared.entry.Label.{Label}
 use Rattle.bare_machine.specs.Preview.{needs_slot}
-use Rattle.detector.specs.Detected.{Detected, watcher_of, after_room, Takes}
+use Rattle.detector.specs.Detected.{Detected, watcher_of, Room, after_room, Takes}
 use Rattle.thread_turns.specs.declared.part.Part.{Part}
 use Rattle.thread_turns.specs.declared.watched.WatchedMachine.{WatchedMachine}
 use Rattle.thread_turns.specs.Turned.{IsTurnOf, IsNext, LacksLabel, TriesNext, AdvancesAll}
@@ -59,12 +59,12 @@ advances_after file tid false p q r v w x unused readies lacks s f t on room =
 
 -- ---- as the calls tell it
 
-pub asks_after : (file : List ℕ) (tid : ℕ) (p q : Part) (w v : WatchedMachine) (new : Detected) (spare : ℕ) → p.used ≡ false → IsTurnOf file tid p w → LacksLabel file tid p q w v → new ≡ after_room v.detector tid spare → AsksAttach tid new
+pub asks_after : (file : List ℕ) (tid : ℕ) (p q : Part) (w v : WatchedMachine) (new : Detected) (spare : Room) → p.used ≡ false → IsTurnOf file tid p w → LacksLabel file tid p q w v → new ≡ after_room v.detector tid spare → AsksAttach tid new
 asks_after file tid p q w v new spare unused turn lacks at =
     asks_of file tid p w None new spare unused turn (sym lacks.unlabelled) refl (at ∙ ap (λ (x : WatchedMachine). after_room x.detector tid spare) lacks.stays)
 
 pub readies_after :
-    (file : List ℕ) (tid : ℕ) (p q : Part) (w v : WatchedMachine) (roomy new : Detected) (spare : ℕ) (taken : Option Label) (can : Bool) → p.used ≡ false → LacksLabel file tid p q w v →
+    (file : List ℕ) (tid : ℕ) (p q : Part) (w v : WatchedMachine) (roomy new : Detected) (spare : Room) (taken : Option Label) (can : Bool) → p.used ≡ false → LacksLabel file tid p q w v →
     roomy ≡ after_room v.detector tid spare → IfNone taken ((roomy.desk.queue ≡ []) × (new ≡ roomy)) → IfSome taken (Takes roomy new tid) → can ≡ is_some taken →
     ReadiesAll file tid can p (record q { attached = taken }) w (record { machine = v.machine; detector = new })
 readies_after file tid p q w v roomy new spare taken can unused lacks at if_none if_some can_is =

@@ -3,7 +3,6 @@ use Rattle.std.proofs.Common.{◌≡◌, ◌≢◌, ℕ, zero, suc, ◌+◌, ◌
 use Rattle.std.specs.Prelude.{option_map, option_to_list, fold, if◌then◌else◌}
 use Rattle.std.specs.List.{list_any, enumerate_from}
 use Rattle.std.proofs.lemmas.Bool.{cases_eq, cases_lt, le-ltb}
-use Rattle.std.proofs.lemmas.List.{get_or-set_same}
 use Rattle.std.proofs.Math.ListN.{length-set, length-map}
 use Rattle.std.proofs.Common.{get_or}
 use Rattle.std.proofs.lemmas.List.Sums.{fold-append}
@@ -22,7 +21,7 @@ use Rattle.run_laws.specs.Present.{labels_now, label_now, frames_now, clocks_now
 use Rattle.run_laws.proofs.PresentLaw.{labels_now-push}
 use Rattle.slot_desk.specs.Desks.{thread_of, held_of}
 use Rattle.slot_desk.proofs.HistorySteps.{labelled_holds}
-use Rattle.race_core.specs.Watched.{new_watched, with_room}
+use Rattle.race_core.specs.Watched.{new_watched, with_events}
 use Rattle.race_core.proofs.FrameLaws.{frames_none, frames_event}
 use Rattle.turn_laws.specs.Going.{AreRightFrom, HasSpent, AreOfEvents, spent_by}
 use Rattle.turn_laws.specs.Turns.{moments_before, entries_before}
@@ -34,7 +33,7 @@ use Rattle.machine_laws.specs.Events.{AreAllowed, IsAllowed, is_last}
 use Rattle.machine_laws.specs.Agrees.{Agrees}
 use Rattle.machine_laws.proofs.ThreadLaw.{made_of, one_kept, depth_own, depth_other}
 use Rattle.machine_laws.proofs.DeskLaw.{create_answer, create_after, end_after, join_done, stays}
-use Rattle.detector.specs.Detected.{Detected, watcher_of, after_room, IsGoing}
+use Rattle.detector.specs.Detected.{Detected, watcher_of, Room, after_room, IsGoing}
 use Rattle.detector.specs.Checking.{IsStanding}
 use Rattle.thread_events.specs.Heard.{desk_after}
 use Rattle.detector.specs.Hears.{CanHear, Hears}
@@ -167,22 +166,19 @@ module _ (s : Setting) (threads : Threads) (e : Event) (rest : List Event) (p : 
   alive : (thread_of d.desk t).lives ≡ true
   alive = may.hearing.agrees.lives_are t ∙ allowed.alive
 
-  pub roomy : (spare : ℕ) → Stands granules s.limits s.from None h (after_room d t spare)
+  pub roomy : (spare : Room) → Stands granules s.limits s.from None h (after_room d t spare)
   roomy spare = stands_room granules s.limits s.from None h d t spare standing may.hearing.watched
 
-  long : (spare : ℕ) → length (after_room d t spare).watchers ≡ length d.watchers
-  long spare = length-set d.watchers t (with_room (watcher_of d t))
+  long : (spare : Room) → length (after_room d t spare).watchers ≡ length d.watchers
+  long spare = length-set d.watchers t (with_events spare.events (watcher_of d t))
 
-  pub going : (spare : ℕ) → IsGoing (after_room d t spare) t
+  pub going : (spare : Room) → IsGoing (after_room d t spare) t
   going spare = going_of granules s.limits s.from None h (after_room d t spare) t slot.sid (roomy spare) (let x = long spare in let y = may.hearing.watched in omega arith) alive slot.slot
 
-  pub its_spare : (spare : ℕ) → 0 < (watcher_of (after_room d t spare) t).trace.spare
-  its_spare spare = rw (get_or-set_same d.watchers t (with_room (watcher_of d t)) (new_watched t d.limits) may.hearing.watched) (omega arith)
-
-  pub its_count : (spare : ℕ) → (watcher_of (after_room d t spare) t).trace.count < 2 ^ 64 - 1
+  pub its_count : (spare : Room) → (watcher_of (after_room d t spare) t).trace.count < 2 ^ 64 - 1
   its_count spare = let a = ((roomy spare).watchers t).trace.counted in let b = few_in_trace g (items h) (length h) t in let c = may.room in omega arith
 
-  pub can_hear : (spare : ℕ) → CanHear (after_room d t spare) t e
+  pub can_hear : (spare : Room) → CanHear (after_room d t spare) t e
   can_hear spare = go e allowed
     where
       clock : List ℕ
@@ -217,7 +213,7 @@ module _ (s : Setting) (threads : Threads) (e : Event) (rest : List Event) (p : 
   pub limits_are : d.limits ≡ s.limits
   limits_are = standing.limits_are
 
-  module _ (spare : ℕ) (d' : Detected) (after : List Check) (spent : Option Label) (heard : Hears s.file s.limits (after_room d t spare) d' t (length p.events) e p.checks after spent) where
+  module _ (spare : Room) (d' : Detected) (after : List Check) (spent : Option Label) (heard : Hears s.file s.limits (after_room d t spare) d' t (length p.events) e p.checks after spent) where
     abbrev q : Part
     q = record p { events = p.events ++ e ∷ []; checks = after; spent = spent }
 
@@ -354,7 +350,6 @@ pub record Asks (file : List ℕ) (tid : ℕ) (e : Event) (q : Part) (d : Detect
   pub going : IsGoing d tid
   pub stands : IsStanding (granules_of file) d
   pub can : CanHear d tid e
-  pub spare : 0 < (watcher_of d tid).trace.spare
   pub count : (watcher_of d tid).trace.count < 2 ^ 64 - 1
   pub place : length q.events < 2 ^ 32
 
@@ -365,7 +360,7 @@ few_events s r = omega (arith, length-append (moments_before s.entries (turn_of 
     long n [] = refl
     long n (e ∷ es) = ap suc (long (n + 1) es)
 
-pub asks : (file : List ℕ) (tid k : ℕ) (events : List Event) (e : Event) (p q : Part) (old mid new : Detected) (spare : ℕ) → CanHearAll file tid events p old → NextEvent file tid k events e p q old mid → new ≡ after_room mid tid spare → Asks file tid e q new
+pub asks : (file : List ℕ) (tid k : ℕ) (events : List Event) (e : Event) (p q : Part) (old mid new : Detected) (spare : Room) → CanHearAll file tid events p old → NextEvent file tid k events e p q old mid → new ≡ after_room mid tid spare → Asks file tid e q new
 asks file tid k events e p q old mid new spare can w is =
     let s = can.setting in
     let threads = fold (threads_after s.tid) can.threads w.done in
@@ -377,14 +372,13 @@ asks file tid k events e p q old mid new spare can w is =
       going = going s threads e w.rest q mid may spare;
       stands = record { from = s.from; leaving = None; history = so_far s q; stands = subst (λ (l : Limits). Stands (granules_of s.file) l s.from None (so_far s q) (after_room mid s.tid spare)) (sym (limits_are s threads e w.rest q mid may)) (roomy s threads e w.rest q mid may spare) };
       can = can_hear s threads e w.rest q mid may spare;
-      spare = its_spare s threads e w.rest q mid may spare;
       count = its_count s threads e w.rest q mid may spare;
       place = let x = may.room in let y = few_events s q in omega arith;
     })))
 
 -- one more is heard
 pub partway_more :
-    (file : List ℕ) (tid k : ℕ) (events : List Event) (e : Event) (p q : Part) (old mid new : Detected) (spare : ℕ) (after : List Check) (spent : Option Label) → NextEvent file tid k events e p q old mid →
+    (file : List ℕ) (tid k : ℕ) (events : List Event) (e : Event) (p q : Part) (old mid new : Detected) (spare : Room) (after : List Check) (spent : Option Label) → NextEvent file tid k events e p q old mid →
     Hears file (after_room mid tid spare).limits (after_room mid tid spare) new tid (length q.events) e q.checks after spent →
     Partway file tid (k + 1) events p (record q { events = q.events ++ e ∷ []; checks = after; spent = spent }) old new
 partway_more file tid k events e p q old mid new spare after spent w hears = record {
@@ -440,7 +434,7 @@ partway_more file tid k events e p q old mid new spare after spent w hears = rec
     more s rest false z a has = inr (has z)
 
 pub partway_next :
-    (file : List ℕ) (tid k place : ℕ) (events noted : List Event) (e : Event) (p q : Part) (old mid roomy new : Detected) (spare : ℕ) (after : List Check) (spent : Option Label) → NextEvent file tid k events e p q old mid →
+    (file : List ℕ) (tid k place : ℕ) (events noted : List Event) (e : Event) (p q : Part) (old mid roomy new : Detected) (spare : Room) (after : List Check) (spent : Option Label) → NextEvent file tid k events e p q old mid →
     roomy ≡ after_room mid tid spare → place ≡ length q.events → noted ≡ q.events ++ e ∷ [] → Hears file roomy.limits roomy new tid place e q.checks after spent →
     Partway file tid (k + 1) events p (record q { events = noted; checks = after; spent = spent }) old new
 partway_next file tid k place events noted e p q old mid roomy new spare after spent w is at same hears =

@@ -16,7 +16,7 @@ use Rattle.run_laws.proofs.SlotSteps.{attach_slot_here}
 use Rattle.run_laws.proofs.EpochRange.{labels_fit}
 use Rattle.slot_desk.specs.Desks.{thread_of, held_of, slot_of}
 use Rattle.slot_desk.proofs.HistorySteps.{Attaches, attaches, unlabelled}
-use Rattle.race_core.specs.Watched.{Watched, new_watched, with_room, with_clock, labelled}
+use Rattle.race_core.specs.Watched.{Watched, new_watched, with_events, with_clock, labelled}
 use Rattle.race_core.proofs.FrameLaws.{frames_none}
 use Rattle.hart_events.specs.Events.{FrontIsFree}
 use Rattle.bare_machine.specs.World.{World}
@@ -27,7 +27,7 @@ use Rattle.turn_laws.proofs.StepsLaw.{begin_is, before_with, before_without, nee
 use Rattle.turn_laws.proofs.PushLaw.{right-none, right-quiet, spent-none, spent-quiet}
 use Rattle.machine_laws.specs.Threads.{threads_in}
 use Rattle.machine_laws.proofs.DeskLaw.{attach_after}
-use Rattle.detector.specs.Detected.{Detected, watcher_of, after_room, after_take, IsResting, Takes}
+use Rattle.detector.specs.Detected.{Detected, watcher_of, Room, after_room, after_take, IsResting, Takes}
 use Rattle.detector.specs.Stands.{Stands}
 use Rattle.detector.proofs.NoteLaws.{stands_room, stands_take, stands_nothing, unheld}
 use Rattle.slot_desk.specs.Steps as desks
@@ -106,7 +106,7 @@ module _ (s : Setting) (p : Part) (w : WatchedMachine) (on : IsGoingOn s 0 p w) 
   pub goes_as_it_is : CanGo s p w → Readies s true p p w w
   goes_as_it_is can = record { machine = refl; steps = refl; used = refl; goes_on = λ is. (goes, can); stops = λ is. absurd cc }
 
-  module _ (none : (watcher_of d t).label ≡ None) (spare : ℕ) where
+  module _ (none : (watcher_of d t).label ≡ None) (spare : Room) where
     abbrev r : Detected
     r = after_room d t spare
 
@@ -116,11 +116,11 @@ module _ (s : Setting) (p : Part) (w : WatchedMachine) (on : IsGoingOn s 0 p w) 
     roomy : Stands granules s.limits s.from None h r
     roomy = stands_room granules s.limits s.from None h d t spare quiet.stands on.hearing.watched
 
-    its : watcher_of r t ≡ with_room (watcher_of d t)
-    its = get_or-set_same d.watchers t (with_room (watcher_of d t)) (new_watched t d.limits) on.hearing.watched
+    its : watcher_of r t ≡ with_events spare.events (watcher_of d t)
+    its = get_or-set_same d.watchers t (with_events spare.events (watcher_of d t)) (new_watched t d.limits) on.hearing.watched
 
     long : t < length r.watchers
-    long = let z = length-set d.watchers t (with_room (watcher_of d t)) in let y = on.hearing.watched in omega arith
+    long = let z = length-set d.watchers t (with_events spare.events (watcher_of d t)) in let y = on.hearing.watched in omega arith
 
     resting : IsResting r t
     resting = record { watched = long; alive = alive_there; era = ap (λ (x : Watched). x.era) its ∙ quiet.era; unlabelled = ap (λ (x : Watched). x.label) its ∙ quiet.label }
@@ -310,7 +310,7 @@ none_of : (o : Option Label) → is_some o ≡ false → o ≡ None
 none_of None is = refl
 none_of (Some l) is = absurd cc
 
-pub asks_of : (file : List ℕ) (tid : ℕ) (p : Part) (w : WatchedMachine) (o : Option Label) (new : Detected) (spare : ℕ) → p.used ≡ false → IsTurnOf file tid p w → o ≡ (watcher_of w.detector tid).label → is_some o ≡ false → new ≡ after_room w.detector tid spare → AsksAttach tid new
+pub asks_of : (file : List ℕ) (tid : ℕ) (p : Part) (w : WatchedMachine) (o : Option Label) (new : Detected) (spare : Room) → p.used ≡ false → IsTurnOf file tid p w → o ≡ (watcher_of w.detector tid).label → is_some o ≡ false → new ≡ after_room w.detector tid spare → AsksAttach tid new
 asks_of file tid p w o new spare unused turn is none at =
     let s = turn.setting in
     let unlabelled : (watcher_of w.detector s.tid).label ≡ None = ap (λ (u : ℕ). (watcher_of w.detector u).label) turn.tid_is ∙ (sym is ∙ none_of o none) in
@@ -318,7 +318,7 @@ asks_of file tid p w o new spare unused turn is none at =
     subst (AsksAttach tid) (sym at) (subst (λ (u : ℕ). AsksAttach u (after_room w.detector u spare)) turn.tid_is (asks s p w turn.going_on unused unlabelled spare few))
 
 pub readies_of :
-    (file : List ℕ) (tid : ℕ) (p : Part) (w : WatchedMachine) (o : Option Label) (roomy new : Detected) (spare : ℕ) (taken : Option Label) (can : Bool) → p.used ≡ false → o ≡ (watcher_of w.detector tid).label → is_some o ≡ false → needs_slot file w.machine tid ≡ true →
+    (file : List ℕ) (tid : ℕ) (p : Part) (w : WatchedMachine) (o : Option Label) (roomy new : Detected) (spare : Room) (taken : Option Label) (can : Bool) → p.used ≡ false → o ≡ (watcher_of w.detector tid).label → is_some o ≡ false → needs_slot file w.machine tid ≡ true →
     roomy ≡ after_room w.detector tid spare → IfNone taken ((roomy.desk.queue ≡ []) × (new ≡ roomy)) → IfSome taken (Takes roomy new tid) → can ≡ is_some taken →
     ReadiesAll file tid can p (record p { attached = taken }) w (record { machine = w.machine; detector = new })
 readies_of file tid p w o roomy new spare taken can unused is none needs at if_none if_some can_is s f t on =

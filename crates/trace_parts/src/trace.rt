@@ -134,6 +134,14 @@ impl Trace {
         })
     }
 
+    /// How many events may be pushed before the next call of `room`.
+    #[inline(always)]
+    pub fn spare(&self) -> u8
+        ensures { result ≡ self.now.spare }
+    {
+        self.ring.spare
+    }
+
     /// How many events were pushed.
     pub fn count(&self) -> u64
         ensures { result ≡ self.now.count }

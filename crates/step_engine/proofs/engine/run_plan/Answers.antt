@@ -18,7 +18,7 @@ returns g c =
     let plan_is : c.as_slice.result.now ≡ c.args.plan.now = c.as_slice.ensures in
     let reached = subst (λ (plan : List Turn). rounds.Reaches OneByOne limits bare plan (progress engine plan)) plan_is c.in_ok-end.ensures.reached in
     let ends = subst (λ (plan : List Turn). rounds.Ends OneByOne limits bare (progress engine plan) c.in_ok-end.end) plan_is c.in_ok-end.ensures.ends in
-    is_run _ _ _ _ engine c.in_ok-end.end _ c.accepted.ensures c.in_ok-end.ensures.ready (rw c.new-suppressions.ensures at c.in_ok-end.ensures.told) reached ends refl
+    is_run _ _ _ _ engine c.run.new.reporter.kept c.in_ok-end.end _ c.accepted.ensures c.in_ok-end.ensures.ready (rw c.new-reporter.ensures at c.in_ok-end.ensures.told) reached ends refl
     (rw c.threads.ensures.count refl)
     (rw (c.into_reports.ensures, c.suppressed-suppressed.ensures, c.equal-equal.ensures) refl)
     (rw (c.from_vec.ensures, c.into_output.ensures) refl)

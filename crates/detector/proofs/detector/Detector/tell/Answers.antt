@@ -1,5 +1,4 @@
 use Rattle.std.proofs.Common.{rules, ◌≡◌, [], ◌∷◌, List, length, refl, sym, ap, ◌∙◌, arith}
-use Rattle.std.specs.Prelude.{is_some}
 use Rattle.std.specs.Vec.Iter.{into_iter_items}
 use Rattle.report_text.specs.Offers.{is_met}
 use Rattle.detector.proofs.ToldLaws.{Telling, telling_start, next_can, telling_step, telling_end}
@@ -11,7 +10,7 @@ nothing_left : {X : Type 0} (l : List X) → length l ≡ 0 → l ≡ []
 nothing_left [] h = refl
 nothing_left (x ∷ xs) h = absurd (omega arith)
 
-now : (g : Over) (c : In-Some g) → Telling (is_met (g.S.Suppressions.rule_met c.args.suppressions.now)) c.args.image.now c.args.self.now c.take_waiting-waiting.new.self c.args.reporter.now c.loop-candidate.reporter c.loop-candidate.yielded (c.in-Some.candidate ∷ into_iter_items c.next.new.self)
+now : (g : Over) (c : In-Some g) → Telling (is_met (g.S.Suppressions.rule_met c.args.reporter.now.rules)) c.args.image.now c.args.self.now c.take_waiting-waiting.new.self c.args.reporter.now.kept c.loop-candidate.reporter.kept c.loop-candidate.yielded (c.in-Some.candidate ∷ into_iter_items c.next.new.self)
 now g c = rw c.in-Some.ensures.steps.0 at c.loop-candidate.invariant.0
 
 pub loop-candidate-init : goal.loop-candidate-init
@@ -30,8 +29,8 @@ loop-candidate-preserved g c =
     let short = ap length c.in-Some.ensures.steps.0 in
     let gone = c.in-Some.ensures.steps.1 in
     let rules_are = c.loop-candidate.invariant.2 in
-    let met = rw rules_are at c.in_ok-met.ensures.met in
-    (telling_step _ _ _ _ _ _ _ _ _ t c.in_ok-previous.previous c.offer.new.self c.in_ok-previous.ensures (c.in_ok-offer.ensures.kept (is_met (g.S.Suppressions.rule_met c.args.suppressions.now)) (ap is_some (sym met))) c.in_ok-offer.ensures.counted, omega arith, c.in_ok-met.ensures.rules ∙ rules_are)
+    let kept = rw rules_are at c.in_ok-offer.ensures.kept in
+    (telling_step _ _ _ _ _ _ _ _ _ t c.in_ok-previous.previous c.offer.new.self.kept c.in_ok-previous.ensures kept c.in_ok-offer.ensures.counted, omega arith, c.offer.ensures.rules ∙ rules_are)
 
 pub returns-clause-told : goal.returns-clause-told
 returns-clause-told g c =

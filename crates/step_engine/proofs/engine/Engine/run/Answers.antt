@@ -32,7 +32,7 @@ rounds-preserved g c =
       turn = rw made.turn c.in-Some-due.ensures.turn;
       ready = made.ready;
       live = live_again _ _ _ _ _ c.rounds.invariant.ready made _ _ _ c.rounds.invariant.live c.threads-made.ensures.count (rw c.keep_live.ensures at c.in_ok-add_live-2.ensures);
-      told = subst (λ (l : Limits). Told (is_met (g.S.Suppressions.rule_met c.args.suppressions.now)) c.args.image.now l c.round.new.self.entries c.round.new.self.reporter) c.rounds.invariant.ready.between.follows.stands.limits_are (rw c.rounds.invariant.rules at c.in_ok-round.ensures.told);
+      told = subst (λ (l : Limits). Told (is_met (g.S.Suppressions.rule_met c.args.reporter.now.rules)) c.args.image.now l c.round.new.self.entries c.round.new.reporter.kept) c.rounds.invariant.ready.between.follows.stands.limits_are (rw c.rounds.invariant.rules at c.in_ok-round.ensures.told);
       rules = c.round.ensures.rules ∙ c.rounds.invariant.rules;
     }
 

@@ -14,8 +14,8 @@ invariant-rounds g l = record {
   turn : l.self.turn ≤ length l.plan;
   ready : IsReady l.image l.limits l.self;
   live : l.live.items ≡ live_of l.self.watched.machine;
-  told : Told (is_met (g.S.Suppressions.rule_met l.fn.suppressions)) l.image l.limits l.self.entries l.self.reporter;
-  rules : l.suppressions ≡ l.fn.suppressions;
+  told : Told (is_met (g.S.Suppressions.rule_met l.fn.reporter.rules)) l.image l.limits l.self.entries l.reporter.kept;
+  rules : l.reporter.rules ≡ l.fn.reporter.rules;
 }
 
 abbrev pub decreases-rounds : goal.decreases-rounds
