@@ -47,8 +47,8 @@ EOF
 cat > "$work/crates/cycle_times/src/work.rt" <<'EOF'
 // The calls that are timed.
 use lock_order::{cycles, edges};
-use run_record::{CheckList, DeskNote, Entries, Entry, Event, EventList, NoMemory, Record};
-use std::alloc::{AllocError, Global};
+use run_record::{DeskNote, Entries, Event, Head, NoMemory, Record};
+use std::alloc::Global;
 use std::io;
 
 const MUTEXES: u64 = 10_000;
@@ -62,28 +62,21 @@ fn next(mutex: u64, ring: u64) -> u64 {
     if mutex % ring == ring - 1 { first } else { mutex.saturating_add(1) }
 }
 
-fn entry(alloc: Global, from: u64, to: u64) -> Result<Entry, AllocError> {
-    let mut events = EventList::new(alloc);
-    events.push(Event::Lock { addr: from, read: false })?;
-    events.push(Event::Lock { addr: to, read: false })?;
-    events.push(Event::Unlock { addr: to, read: false })?;
-    events.push(Event::Unlock { addr: from, read: false })?;
-    Ok(Entry {
-        round: 0,
-        era: 0,
-        stamp: 0,
-        tid: 0,
-        steps: 1,
-        note: DeskNote::Nothing,
-        events,
-        checks: CheckList::new(alloc),
-    })
+fn lock(addr: u64) -> Event {
+    Event::Lock { addr, read: false }
 }
 
-fn history(alloc: Global, ring: u64) -> Result<Record, AllocError> {
+fn unlock(addr: u64) -> Event {
+    Event::Unlock { addr, read: false }
+}
+
+fn history(alloc: Global, ring: u64) -> Result<Record, NoMemory> {
     let mut entries = Entries::new(alloc);
-    for mutex in 0..MUTEXES {
-        entries.push(entry(alloc, mutex, next(mutex, ring))?)?;
+    for from in 0..MUTEXES {
+        let to = next(from, ring);
+        let head = Head { round: 0, era: 0, stamp: 0, tid: 0, steps: 1 };
+        let events = [lock(from), lock(to), unlock(to), unlock(from)];
+        entries.push(head, DeskNote::Nothing, &events, &[])?;
     }
     Ok(Record { entries })
 }

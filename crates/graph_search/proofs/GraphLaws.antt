@@ -1,11 +1,11 @@
 -- The links of a node stand side by side.
-use Rattle.std.proofs.Common.{◌≡◌, ℕ, ◌+◌, ◌-◌, ◌<◌, ◌≤◌, List, [], ◌∷◌, ◌++◌, length, get_or, take, drop, sym, ap, ◌∙◌, subst, inl, inr, arith}
-use Rattle.std.specs.List.{All}
-use Rattle.std.specs.List.Sorted.{IsPartitionPoint}
+use Rattle.std.proofs.Common.{◌≡◌, ℕ, ◌+◌, ◌-◌, ◌<◌, ◌≤◌, List, length, map, get_or, take, drop, sym, ap, ◌∙◌, inl, inr, arith}
+use Rattle.std.specs.List.{All, Contains}
 use Rattle.std.proofs.lemmas.Bool.{cases_lt}
-use Rattle.std.proofs.lemmas.List.{length-take, length-drop, get_or-take, get_or-drop, get_or_append_left, get_or_push, length_push}
+use Rattle.std.proofs.lemmas.List.{length-take, length-drop, get_or-take, get_or-drop, length-map, get_or-map}
+use Rattle.std.proofs.lemmas.List.Elements.{All-map}
 use Rattle.graph_search.specs.declared.graph.Link.{Link}
-use Rattle.graph_search.specs.Graphs.{IsWithin, AreStarts, AreFrom}
+use Rattle.graph_search.specs.Graphs.{IsWithin, AreStarts, AreFrom, turn}
 use Rattle.graph_search.specs.Searches.{at}
 
 abbrev nothing : Link
@@ -63,42 +63,13 @@ module _ (nodes n : ℕ) (links : List Link) (starts : List ℕ) (s : AreStarts 
         (c.0 - at starts n, omega (arith, long), read (c.0 - at starts n) k (omega arith) ∙ (ap (λ (m : ℕ). get_or links m k) sum ∙ c.2));
   }
 
--- the first starts, as they are pushed
-pub record AreFirst (n : ℕ) (links : List Link) (starts : List ℕ) : Type 0 where
-  pub size : length starts ≡ n
-  pub within : (m : ℕ) → m < n → at starts m ≤ length links
-  pub parts : (m : ℕ) → m < n → IsPartitionPoint (λ (l : Link). l.from < m) (λ (l : Link). m ≤ l.from) links (at starts m)
+pub contains-turned : (links : List Link) (l : Link) → Contains links l → Contains (map turn links) (turn l)
+contains-turned links l (k, inside, e) = (k, omega (arith, length-map links turn), get_or-map turn links k l (turn l) inside ∙ ap turn e)
 
-pub first-more : (n p : ℕ) (links : List Link) (starts : List ℕ) → AreFirst n links starts → p ≤ length links →
-    IsPartitionPoint (λ (l : Link). l.from < n) (λ (l : Link). n ≤ l.from) links p → AreFirst (n + 1) links (starts ++ p ∷ [])
-first-more n p links starts f bound point =
-    let before : (m : ℕ) → m < n → at (starts ++ p ∷ []) m ≡ at starts m = λ m l. get_or_append_left starts (p ∷ []) 0 m (omega (arith, f.size)) in
-    let here : at (starts ++ p ∷ []) n ≡ p = get_or_push starts p 0 n f.size in
-    record {
-      size = omega (arith, length_push starts p, f.size);
-      within = λ m l. elim (cases_lt m n) [
-        | inl b ↦ subst (λ (k : ℕ). k ≤ length links) (sym (before m b)) (f.within m b)
-        | inr b ↦
-            let e : n ≡ m = omega arith in
-            subst (λ (k : ℕ). at (starts ++ p ∷ []) k ≤ length links) e (subst (λ (k : ℕ). k ≤ length links) (sym here) bound)
-      ];
-      parts = λ m l. elim (cases_lt m n) [
-        | inl b ↦
-            subst (λ (k : ℕ). IsPartitionPoint (λ (l : Link). l.from < m) (λ (l : Link). m ≤ l.from) links k) (sym (before m b)) (f.parts m b)
-        | inr b ↦
-            let e : n ≡ m = omega arith in
-            subst (λ (k : ℕ). IsPartitionPoint (λ (l : Link). l.from < k) (λ (l : Link). k ≤ l.from) links (at (starts ++ p ∷ []) k)) e
-            (subst (λ (k : ℕ). IsPartitionPoint (λ (l : Link). l.from < n) (λ (l : Link). n ≤ l.from) links k) (sym here) point)
-      ];
-    }
+pub contains-turn : (links : List Link) (l : Link) → Contains (map turn links) l → Contains links (turn l)
+contains-turn links l (k, inside, e) =
+    let short : k < length links = omega (arith, length-map links turn) in
+    (k, short, ap turn (sym (get_or-map turn links k (turn l) l short) ∙ e))
 
-pub first-all : (nodes n : ℕ) (links : List Link) (starts : List ℕ) → n ≡ nodes → AreFirst n links starts → All (IsWithin nodes) links →
-    AreStarts nodes links (starts ++ length links ∷ [])
-first-all nodes n links starts e f w =
-    let all = first-more n (length links) links starts f (omega arith)
-    (λ k d low high. subst (λ (m : ℕ). (get_or links k d).from < m) (sym e) (w k d high).from, λ k d low high. absurd (omega arith)) in
-    record {
-      size = omega (arith, all.size);
-      within = λ m l. all.within m (omega arith);
-      parts = λ m l. all.parts m (omega arith);
-    }
+pub turned_within : (n : ℕ) (links : List Link) → All (IsWithin n) links → All (IsWithin n) (map turn links)
+turned_within n links w = All-map (IsWithin n) turn links (λ k d l. record { from = (w k d l).to; to = (w k d l).from })

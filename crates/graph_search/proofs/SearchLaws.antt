@@ -135,10 +135,10 @@ searches-begin links own a n ds queue f s =
       within = omega arith;
     }
 
-contains_at : (xs : List ℕ) (v : ℕ) → Contains xs v → (k : ℕ) × (k < length xs) × (at xs k ≡ v)
+pub contains_at : (xs : List ℕ) (v : ℕ) → Contains xs v → (k : ℕ) × (k < length xs) × (at xs k ≡ v)
 contains_at xs v (k, l, e) = (k, l, get_or_default xs k 0 v l ∙ e)
 
-contains_from : (xs : List ℕ) (v k : ℕ) → k < length xs → at xs k ≡ v → Contains xs v
+pub contains_from : (xs : List ℕ) (v k : ℕ) → k < length xs → at xs k ≡ v → Contains xs v
 contains_from xs v k l e = (k, l, get_or_default xs k v 0 l ∙ e)
 
 -- one more node is done

@@ -1,7 +1,9 @@
 -- Graphs: links between nodes, sorted by the node at which they begin.
 use Rattle.std.specs.Prelude.{◌≡◌, ℕ, ◌+◌, ◌<◌, ◌≤◌, List, length}
-use Rattle.std.specs.List.{All, Contains, slice_index_or}
-use Rattle.std.specs.List.Sorted.{IsPartitionPoint}
+use Rattle.std.specs.List.{All, Contains, slice_index_or, flat_map}
+use Rattle.std.specs.declared.vec.Vec.{Vec}
+use Rattle.std.specs.declared.alloc.Global.{Global}
+use Rattle.std.specs.List.Sorted.{IsPartitionPoint, IsPermutation}
 use Rattle.graph_search.specs.declared.graph.Link.{Link}
 use Rattle.graph_search.specs.declared.graph.Graph.{Graph}
 
@@ -26,3 +28,17 @@ pub record AreFrom (links : List Link) (node : ℕ) (own : List Link) : Type 0 w
   pub each : (l : Link) → Contains own l → Contains links l
   pub from : (l : Link) → Contains own l → l.from ≡ node
   pub all : (l : Link) → Contains links l → l.from ≡ node → Contains own l
+
+-- the link the other way round
+abbrev pub turn : Link → Link
+turn l = record { from = l.to; to = l.from }
+
+-- the links of all rows
+abbrev pub row_links : List (Vec Link Global) → List Link
+row_links rows = flat_map (λ (r : Vec Link Global). r.items) rows
+
+-- for each node a row of the links that begin at it
+pub record AreRows (nodes : ℕ) (links : List Link) (rows : List (Vec Link Global)) : Type 0 where
+  pub size : length rows ≡ nodes
+  pub same : IsPermutation links (row_links rows)
+  pub own : (n : ℕ) (d : Vec Link Global) → n < nodes → All (λ (l : Link). l.from ≡ n) (slice_index_or rows n d).items

@@ -1,8 +1,8 @@
 // Graphs, with the links of a node side by side.
-ghost use Rattle.std.specs.Prelude.{◌<◌, ◌≤◌, ◌+◌, ◌-◌, length, IfOk, vec_len};
+ghost use Rattle.std.specs.Prelude.{◌<◌, ◌+◌, ◌-◌, ◌≡◌, [], map, IfOk, vec_len};
 ghost use Rattle.std.specs.List.{All};
-ghost use Rattle.std.specs.List.Sorted.{IsPermutation, IsNonDecreasingBy, IsPartitionPoint};
-ghost use Rattle.graph_search.specs.Graphs.{IsWithin, AreStarts, IsGraph, AreFrom};
+ghost use Rattle.std.specs.List.Sorted.{IsPermutation};
+ghost use Rattle.graph_search.specs.Graphs.{IsWithin, IsGraph, AreFrom, AreRows, turn};
 
 use std::alloc::{AllocError, Global};
 
@@ -22,26 +22,27 @@ pub struct Graph {
     pub starts: Vec<usize>,
 }
 
-/// How many of the links, which stand by rising `from`, begin below the node.
-fn links_below(links: &[Link], node: usize) -> usize
-    requires { IsNonDecreasingBy (λ l. l.from) links.now }
-    ensures bound { result ≤ length links.now }
-    ensures parts { IsPartitionPoint (λ l. l.from < node) (λ l. node ≤ l.from) links.now result }
+/// A row for each node, with nothing in it.
+fn no_rows(alloc: Global, nodes: usize) -> Result<Vec<Vec<Link>>, AllocError>
+    ensures { IfOk result (λ v. AreRows nodes [] v.items) }
 {
-    links.partition_point(|link| link.from < node)
+    let mut rows = Vec::new(alloc);
+    for _node in 0..nodes {
+        rows.push(Vec::new(alloc))?;
+    }
+    Ok(rows)
 }
 
-fn starts(alloc: Global, nodes: usize, links: &[Link]) -> Result<Vec<usize>, AllocError>
-    requires sorted { IsNonDecreasingBy (λ l. l.from) links.now }
+/// For each node a row of the links that begin at it.
+fn rows(alloc: Global, nodes: usize, links: &[Link]) -> Result<Vec<Vec<Link>>, AllocError>
     requires within { All (IsWithin nodes) links.now }
-    ensures { IfOk result (λ v. AreStarts nodes links.now v.items) }
+    ensures { IfOk result (λ v. AreRows nodes links.now v.items) }
 {
-    let mut starts = Vec::new(alloc);
-    for node in 0..nodes {
-        starts.push(links_below(links, node))?;
+    let mut rows = no_rows(alloc, nodes)?;
+    for link in links {
+        rows[link.from].push(*link)?;
     }
-    starts.push(links.len())?;
-    Ok(starts)
+    Ok(rows)
 }
 
 impl Graph {
@@ -51,11 +52,39 @@ impl Graph {
         ensures same { IfOk result (λ g. IsPermutation links.items g.links.items) }
         ensures graph { IfOk result (IsGraph nodes) }
     {
-        let mut links = links;
-        links.sort_by_key(|link| link.from)?;
-        let starts = starts(alloc, nodes, &links)?;
+        let rows = rows(alloc, nodes, &links)?;
+        let mut links = Vec::new(alloc);
+        let mut starts = Vec::new(alloc);
+        for row in &rows {
+            starts.push(links.len())?;
+            links.extend_from_slice(row)?;
+        }
+        starts.push(links.len())?;
         Ok(Graph { links, starts })
     }
+
+    /// The graph with each link turned round.
+    pub fn turned(&self, alloc: Global) -> Result<Graph, AllocError>
+        requires graph { IsGraph (vec_len self.now.starts - 1) self.now }
+        ensures same { IfOk result (λ g. IsPermutation (map turn self.now.links.items) g.links.items) }
+        ensures graph { IfOk result (IsGraph (vec_len self.now.starts - 1)) }
+    {
+        let links = turned(alloc, &self.links)?;
+        Graph::new(alloc, self.starts.len() - 1, links)
+    }
+}
+
+/// The links, each turned round.
+fn turned(alloc: Global, links: &[Link]) -> Result<Vec<Link>, AllocError>
+    ensures { IfOk result (λ v. v.items ≡ map turn links.now) }
+{
+    links
+        .iter()
+        .map(|link| Link {
+            from: link.to,
+            to: link.from,
+        })
+        .collect(alloc)
 }
 
 /// The links that begin at the node.

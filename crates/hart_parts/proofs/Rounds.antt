@@ -236,7 +236,7 @@ module _ (file : List ℕ) (limits : Limits) (lay : Layout) (round era : ℕ) (m
   abbrev deeds_of : ℕ → List ObjectDeed
   deeds_of t = first_deeds (tag (seat t)) (length (log_of (seat t) r.late)) ++ of_thread t alone
 
-  deeds_with : (t : ℕ) (q : HasPart m r.first_seat r.parts t) → deeds_of t ≡ q.part.deeds ++ rest_of m q.part
+  pub deeds_with : (t : ℕ) (q : HasPart m r.first_seat r.parts t) → deeds_of t ≡ q.part.deeds ++ rest_of m q.part
   deeds_with t q =
       let n = r.first_seat + q.index in
       let tags : tag n ≡ tags_along q.part.deeds q.part.log = fun_ext q.tells in
@@ -254,7 +254,7 @@ module _ (file : List ℕ) (limits : Limits) (lay : Layout) (round era : ℕ) (m
     | inr s ↦ s.tells j
   ]
 
-  deeds_without : (t : ℕ) → HasNoPart m r.first_seat r.parts t → deeds_of t ≡ []
+  pub deeds_without : (t : ℕ) → HasNoPart m r.first_seat r.parts t → deeds_of t ≡ []
   deeds_without t q =
       ap₂ (λ (ds es : List ObjectDeed). ds ++ es)
       (ap (λ (k : ℕ). first_deeds (tag k) (length (log_of k r.late))) q.seat ∙ none_told (tag 0) opening_tells (length (log_of 0 r.late)))

@@ -1,5 +1,5 @@
 -- What a worker tells of the items of its seat's log.
-use Rattle.std.proofs.Common.{◌≡◌, ◌+◌, ◌*◌, ℕ, zero, suc, List, [], ◌∷◌, ◌++◌, length, inl, inr, refl, sym, ap, subst, ◌∙◌, append-nil, append_assoc}
+use Rattle.std.proofs.Common.{◌≡◌, ◌+◌, ◌*◌, ℕ, zero, suc, List, [], ◌∷◌, ◌++◌, length, inl, inr, refl, sym, ap, subst, ◌∙◌, append-nil, append_assoc, arith, length-append}
 use Rattle.std.specs.Prelude.{Option, Some, None}
 use Rattle.std.specs.List.{AllZip, flat_map}
 use mathlib.Core.Option.{some, some-injective, some-ne-none}
@@ -13,7 +13,7 @@ use Rattle.turn_orders.proofs.Members.{each_append}
 use Rattle.woven_turns.specs.Weave.{IsTagged, first_deeds}
 use Rattle.table_deeds.specs.Objects.{ObjectDeed}
 use Rattle.hart_parts.specs.Parts.{Part, Rest, Try, loads_from, store_at, touches_of, all_touches, IsStretch, rest_touches, try_items, IsLogOf}
-use Rattle.hart_parts.specs.Rounds.{told_at, told_after, tags_along}
+use Rattle.hart_parts.specs.Rounds.{told_at, told_after, tags_along, StandsIn}
 
 -- ---- along any log
 
@@ -160,3 +160,123 @@ item_told p j x is e = tagged_at p.deeds p.log j x (part_told p is).tagged e
 -- the deeds that are told along a part's whole log are those of the part
 pub log_told : (p : Part) → IsLogOf p → first_deeds (tags_along p.deeds p.log) (length p.log) ≡ p.deeds
 log_told p is = all_told p.deeds p.log ∙ (part_told p is).whole
+
+-- ---- where a deed stands
+
+-- the deeds that are left behind the items
+abbrev left_for : List ObjectDeed → Log → List ObjectDeed
+left_for ds [] = ds
+left_for ds (x ∷ log) = left_for (told_after ds x) log
+
+behind : (ds : List ObjectDeed) (xs log : Log) (n j : ℕ) → n ≡ length xs + j → tags_along ds (xs ++ log) n ≡ tags_along (left_for ds xs) log j
+behind ds [] log n j e = let z : n ≡ j = omega (arith, e) in ap (tags_along ds log) z
+behind ds (x ∷ xs) log zero j e = absurd (omega (arith, e))
+behind ds (x ∷ xs) log (suc n) j e = behind (told_after ds x) xs log n j (omega (arith, e))
+
+left_more : (ds : List ObjectDeed) (xs ys : Log) → left_for ds (xs ++ ys) ≡ left_for (left_for ds xs) ys
+left_more ds [] ys = refl
+left_more ds (x ∷ xs) ys = left_more (told_after ds x) xs ys
+
+quiet_left : (ds : List ObjectDeed) (xs : Log) → Each IsQuiet xs → left_for ds xs ≡ ds
+quiet_left ds [] q = refl
+quiet_left ds (x ∷ xs) q = ap (λ (es : List ObjectDeed). left_for es xs) (one x q.0) ∙ quiet_left ds xs q.1
+  where
+    one : (y : Item) → IsQuiet y → told_after ds y ≡ ds
+    one (Give k i found left) q = absurd q
+    one (Take k i) q = refl
+    one (Split m) q = refl
+    one (Join m) q = refl
+    one (Load c w) q = refl
+    one (Store c w) q = refl
+
+-- the items of a stretch before its give
+abbrev before_give : (d : ObjectDeed) (items : Log) → IsStretch d items → Log
+before_give d items s = all_touches s.early ++ Take d.call.place s.number ∷ all_touches s.late
+
+stretch_is : (d : ObjectDeed) (items : Log) (s : IsStretch d items) → items ≡ before_give d items s ++ Give d.call.place s.number d.found d.left ∷ []
+stretch_is d items s =
+    s.items_are
+    ∙ sym (append_assoc (all_touches s.early) (Take d.call.place s.number ∷ all_touches s.late) (Give d.call.place s.number d.found d.left ∷ []))
+
+quiet_before : (d : ObjectDeed) (items : Log) (s : IsStretch d items) → Each IsQuiet (before_give d items s)
+quiet_before d items s =
+    each_append IsQuiet (all_touches s.early) (Take d.call.place s.number ∷ all_touches s.late) (quiet_touches s.early) (tt, quiet_touches s.late)
+
+stretch_left : (d : ObjectDeed) (ds : List ObjectDeed) (items : Log) → IsStretch d items → left_for (d ∷ ds) items ≡ ds
+stretch_left d ds items s =
+    ap (left_for (d ∷ ds)) (stretch_is d items s)
+    ∙ (left_more (d ∷ ds) (before_give d items s) (Give d.call.place s.number d.found d.left ∷ [])
+    ∙ ap (λ (es : List ObjectDeed). left_for es (Give d.call.place s.number d.found d.left ∷ []))
+    (quiet_left (d ∷ ds) (before_give d items s) (quiet_before d items s)))
+
+there : (xs : Log) (x : Item) (ys : Log) → get_elem? (xs ++ x ∷ ys) (length xs) ≡ some x
+there [] x ys = refl
+there (y ∷ xs) x ys = there xs x ys
+
+-- the deed of the first stretch
+first_stands : (d : ObjectDeed) (ds : List ObjectDeed) (items rest : Log) → IsStretch d items → StandsIn (d ∷ ds) (items ++ rest) d
+first_stands d ds items rest s =
+    let pre = before_give d items s in
+    let give : Item = Give d.call.place s.number d.found d.left in
+    let whole : items ++ rest ≡ pre ++ give ∷ rest = ap (λ (xs : Log). xs ++ rest) (stretch_is d items s) ∙ append_assoc pre (give ∷ []) rest in
+    let long = ap (λ (xs : Log). length xs) (stretch_is d items s) in
+    let sum = length-append pre (give ∷ []) in
+    let z : length pre ≡ length pre + 0 = omega arith in
+    record {
+      front = [];
+      items = items;
+      back = rest;
+      whole = refl;
+      is = s;
+      place = length pre;
+      last = omega (arith, long, sum);
+      give = ap (λ (xs : Log). get_elem? xs (length pre)) whole ∙ there pre give rest;
+      told =
+          ap (λ (xs : Log). tags_along (d ∷ ds) xs (length pre)) whole
+          ∙ (behind (d ∷ ds) pre (give ∷ rest) (length pre) 0 z
+          ∙ ap (λ (es : List ObjectDeed). told_at es give) (quiet_left (d ∷ ds) pre (quiet_before d items s)));
+    }
+
+-- and one of those behind it
+later_stands : (e : ObjectDeed) (ds : List ObjectDeed) (items rest : Log) (d : ObjectDeed) → IsStretch e items → StandsIn ds rest d →
+    StandsIn (e ∷ ds) (items ++ rest) d
+later_stands e ds items rest d s h =
+    let last = h.last in
+    let sum = length-append items h.front in
+    record {
+      front = items ++ h.front;
+      items = h.items;
+      back = h.back;
+      whole = ap (λ (xs : Log). items ++ xs) h.whole ∙ sym (append_assoc items h.front (h.items ++ h.back));
+      is = h.is;
+      place = length items + h.place;
+      last = omega (arith, last, sum);
+      give = passed items rest h.place ∙ h.give;
+      told =
+          behind (e ∷ ds) items rest (length items + h.place) h.place refl
+          ∙ (ap (λ (es : List ObjectDeed). tags_along es rest h.place) (stretch_left e ds items s) ∙ h.told);
+    }
+  where
+    passed : (xs ys : Log) (j : ℕ) → get_elem? (xs ++ ys) (length xs + j) ≡ get_elem? ys j
+    passed [] ys j = let z : 0 + j ≡ j = omega arith in ap (get_elem? ys) z
+    passed (x ∷ xs) ys j = let z : suc (length xs) + j ≡ suc (length xs + j) = omega arith in ap (get_elem? (x ∷ (xs ++ ys))) z ∙ passed xs ys j
+
+all_stand : (ds : List ObjectDeed) (stretches : List Log) (tail : Log) (d : ObjectDeed) → AllZip IsStretch ds stretches → In d ds →
+    StandsIn ds (flat_map (λ (items : Log). items) stretches ++ tail) d
+all_stand [] ss tail d z i = absurd i
+all_stand (e ∷ ds) [] tail d z i = absurd z
+all_stand (e ∷ ds) (s ∷ ss) tail d z i =
+    let others = flat_map (λ (items : Log). items) ss in
+    subst (λ (log : Log). StandsIn (e ∷ ds) log d) (sym (append_assoc s others tail)) (go i (all_stand ds ss tail d z.1))
+  where
+    go : In d (e ∷ ds) → (In d ds → StandsIn ds (flat_map (λ (items : Log). items) ss ++ tail) d) →
+        StandsIn (e ∷ ds) (s ++ (flat_map (λ (items : Log). items) ss ++ tail)) d
+    go (inl q) rec =
+        subst (λ (x : ObjectDeed). StandsIn (e ∷ ds) (s ++ (flat_map (λ (items : Log). items) ss ++ tail)) x) (sym q)
+        (first_stands e ds s (flat_map (λ (items : Log). items) ss ++ tail) z.0)
+    go (inr j) rec = later_stands e ds s (flat_map (λ (items : Log). items) ss ++ tail) d z.0 (rec j)
+
+-- each deed of a part at an object stands in its log, and is told at its give
+pub deed_stands : (p : Part) (d : ObjectDeed) → IsLogOf p → In d p.deeds → StandsIn p.deeds p.log d
+deed_stands p d is i =
+    subst (λ (log : Log). StandsIn p.deeds log d) (sym is.whole) (all_stand p.deeds is.stretches (rest_touches p.rest ++ try_items p.tried) d is.each i)

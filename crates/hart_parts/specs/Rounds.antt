@@ -24,7 +24,7 @@ use Rattle.deed_histories.specs.Lines.{Tells}
 use Rattle.table_deeds.specs.Objects.{ObjectDeed}
 use Rattle.table_deeds.specs.Listing.{AreApart}
 use Rattle.table_deeds.specs.Rounds.{TableRound, made_in, last_stamp, HasObjects, HaveStamps, IsNextState}
-use Rattle.hart_parts.specs.Parts.{Part, at_last_object, rest_deeds, part_entries, IsPrivate, IsPart}
+use Rattle.hart_parts.specs.Parts.{Part, IsStretch, at_last_object, rest_deeds, part_entries, IsPrivate, IsPart}
 
 -- A round: the past before it and its own; the parts of its threads, of which the first has the seat of that number, the second the
 -- next one, and so on; the entries as the parts' logs are merged; the greatest stamp before it; whether an era begins after it; and
@@ -55,6 +55,18 @@ abbrev pub tags_along : List ObjectDeed → Log → ℕ → List ObjectDeed
 tags_along ds [] j = []
 tags_along ds (x ∷ log) zero = told_at ds x
 tags_along ds (x ∷ log) (suc j) = tags_along (told_after ds x) log j
+
+-- Where a deed stands in a log of these deeds: behind the items `front` is its stretch, whose last item, the give, has the deed.
+pub record StandsIn (ds : List ObjectDeed) (log : Log) (d : ObjectDeed) : Type 0 where
+  pub front : Log
+  pub items : Log
+  pub back : Log
+  pub whole : log ≡ front ++ (items ++ back)
+  pub is : IsStretch d items
+  pub place : ℕ
+  pub last : suc place ≡ length front + length items
+  pub give : get_elem? log place ≡ some (Give d.call.place is.number d.found d.left)
+  pub told : tags_along ds log place ≡ d ∷ []
 
 -- what the seat of that number tells of its items, where the parts have the seats from `first` on
 abbrev pub tag_from : ℕ → List Part → Tags (Stamped Hand) (Unit {0}) Tells
@@ -104,7 +116,9 @@ pub record IsPartRound (file : List ℕ) (limits : Limits) (lay : Layout) (round
   pub before : Each (λ (p : Part). p.before ≡ m.local p.thread) r.parts
   pub apart : AreApart (map (λ (p : Part). p.thread) r.parts)
   pub logs : (i : ℕ) (p : Part) → slice_get r.parts i ≡ Some p → log_of (r.first_seat + i) r.late ≡ p.log
-  pub others : (n j : ℕ) (x : Item) → (IsSeatOfPart r n → ⊥) → get_elem? (log_of n r.late) j ≡ some x → IsTagged {L = Stamped Hand} {A = Unit {0}} {T = Tells} x []
+  pub others :
+      (n j : ℕ) (x : Item) → (IsSeatOfPart r n → ⊥) → get_elem? (log_of n r.late) j ≡ some x →
+      IsTagged {L = Stamped Hand} {A = Unit {0}} {T = Tells} x []
   pub merged : IsPermutation (entries_in (map (part_entries file limits) r.parts)) r.entries
   pub ordered : AreOrdered r.entries
   pub inside : Each (IsIn round era) r.entries

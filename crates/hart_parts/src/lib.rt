@@ -15,6 +15,7 @@ ghost use mathlib.Core.Option.{some};
 ghost use lib.ListN.{get_elem?};
 ghost use Rattle.run_record.specs.declared.entry.Entry.{Entry};
 ghost use Rattle.run_record.specs.declared.limits.Limits.{Limits};
+ghost use Rattle.turn_orders.specs.Lists.{In};
 ghost use Rattle.turn_orders.specs.Machine.{State};
 ghost use Rattle.turn_orders.specs.LineUp.{Stamped};
 ghost use Rattle.shared_table.specs.declared.object.Object.{Object};
@@ -22,14 +23,17 @@ ghost use Rattle.shared_table.specs.declared.view.Layout.{Layout};
 ghost use Rattle.shared_table.specs.declared.view.Item.{Item};
 ghost use Rattle.woven_turns.specs.Weave.{IsTagged, first_deeds};
 ghost use Rattle.placed_detector.specs.Standing.{Hand};
+ghost use Rattle.table_deeds.specs.Objects.{ObjectDeed};
 ghost use Rattle.table_deeds.specs.Rounds.{IsTableRound, AreTableRounds, entries_by_round};
 ghost use Rattle.hart_parts.specs.Parts.{Part, IsLogOf};
-ghost use Rattle.hart_parts.specs.Rounds.{PartRound, tags_along, table_round, table_rounds, IsPartRound, ArePartRounds};
+ghost use Rattle.hart_parts.specs.Rounds.{PartRound, tags_along, StandsIn, table_round, table_rounds, IsPartRound, ArePartRounds};
 
-/// Along a part's log each item has its deed, or none; and together these are the part's deeds, in their order.
+/// Along a part's log each item has its deed, or none; and together these are the part's deeds, in their order. Each deed at an
+/// object has its stretch of the log, and is told at its give.
 pub fn tags_law()
     ensures items { (p : Part) (j : ℕ) (x : Item) → IsLogOf p → get_elem? p.log j ≡ some x → IsTagged x (tags_along p.deeds p.log j) }
     ensures whole { (p : Part) → IsLogOf p → first_deeds (tags_along p.deeds p.log) (length p.log) ≡ p.deeds }
+    ensures deeds { (p : Part) (d : ObjectDeed) → IsLogOf p → In d p.deeds → StandsIn p.deeds p.log d }
 {}
 
 /// A round in which each worker made a part is a round at the table.

@@ -6,6 +6,7 @@ ghost use Rattle.bare_machine.specs.Asked.{IsSound, IsShallow, IsWithin};
 ghost use Rattle.place_turns.specs.Places.{Value};
 ghost use Rattle.place_turns.specs.Turns.{bare_turn, arrives};
 ghost use Rattle.hart_steps.specs.Asked.{Asks, IsAlone};
+ghost use Rattle.bare_machine.specs.Locals.{MakesLocals};
 ghost use Rattle.hart_steps.specs.Harts.{absent, local_of, turn, leaves, AreLocalTurns};
 ghost use Rattle.hart_steps.specs.Desks.{desk_value};
 
@@ -38,6 +39,8 @@ impl Hart {
     /// tells how many it made: each is a turn that leaves the value of the place and tells nothing.
     pub fn run_locals(&mut self, code: &Code<'_>, most: u32) -> u32
         ensures made { (harts tid : ℕ) (v : Value) → AreLocalTurns code.now harts tid v self.old result self.new }
+        ensures thread { MakesLocals code.now self.old.thread result self.new.thread }
+        ensures reserved { self.new.reserved ≡ self.old.reserved }
         ensures few { result ≤ most }
     {
         self.thread.run_locals(code, most)

@@ -1,5 +1,5 @@
 -- Addresses as numbers, edges as links, and the graphs of these.
-use Rattle.std.proofs.Common.{◌≡◌, ℕ, ◌-◌, ◌<◌, ◌≤◌, List, [], ◌∷◌, ◌++◌, length, map, get_or, sym, ap, ◌∙◌, subst, inl, inr, arith, Err, eqb, Bool}
+use Rattle.std.proofs.Common.{◌≡◌, ℕ, ◌-◌, ◌<◌, ◌≤◌, List, [], ◌∷◌, ◌++◌, length, map, get_or, ap, subst, inl, inr, arith, Err, eqb, Bool}
 use Rattle.std.proofs.Common.{true, false, cond}
 use Rattle.std.specs.List.{Contains, All, dedup}
 use Rattle.std.specs.List.Sorted.{IsPermutation, IsBinarySearchResult, IsSorted}
@@ -7,19 +7,20 @@ use Rattle.std.specs.Ordering.{nat_cmp}
 use Rattle.std.specs.declared.cmp.Ordering.TheVariants.{Less, Equal, Greater}
 use Rattle.std.proofs.lemmas.Bool.{cases_order, cases_lt, le-ltb, eq-eqb}
 use Rattle.std.proofs.lemmas.List.{length-map, get_or-map}
-use Rattle.std.proofs.lemmas.List.Elements.{Contains-push, Contains-append_left, Contains-push_cases, Contains-get_or, All-map}
+use Rattle.std.proofs.lemmas.List.Elements.{Contains-push, Contains-append_left, Contains-push_cases, Contains-get_or}
 use Rattle.std.proofs.lemmas.List.Kept.{AllPairs-from_increasing, Contains-dedup_nat}
 use Rattle.std.proofs.lemmas.List.Sorted.{Contains-permutation, IsPermutation-sym, searched}
 use Rattle.std.proofs.lemmas.Map.Keys.{IsStrictlyIncreasing-dedup, Less-from_sorted}
 use Rattle.graph_search.specs.declared.graph.Link.{Link}
 use Rattle.graph_search.specs.declared.graph.Graph.{Graph}
-use Rattle.graph_search.specs.Graphs.{IsWithin, IsGraph}
+use Rattle.graph_search.specs.Graphs.{IsWithin, IsGraph, turn}
 use Rattle.graph_search.specs.Walks.{AreDistances}
 use Rattle.graph_search.specs.Searches.{at}
 use Rattle.lock_order.specs.declared.edge.Edge.{Edge}
 use Rattle.lock_order.specs.Edges.{AreOrdered, pair_order, ends}
-use Rattle.lock_order.specs.Knots.{AreRising, AreNodes, IsLink, AreLinks, turn, AreLeft, AreGone}
-use Rattle.lock_order.proofs.WayLaws.{node_of, are_left, are_gone}
+use Rattle.lock_order.specs.Knots.{AreRising, AreNodes, IsLink, AreLinks, AreLeft}
+use Rattle.lock_order.proofs.WayLaws.{node_of, are_left}
+use Rattle.graph_search.proofs.GraphLaws.{contains-turned, contains-turn}
 
 -- an address that is there is found
 pub not_missing : (nodes : List ℕ) (a i : ℕ) → AreRising nodes → Contains nodes a → IsBinarySearchResult (λ (y : ℕ). nat_cmp y a) nodes (Err i) → ⊥
@@ -108,19 +109,8 @@ links_within es nodes links ls = λ k d l.
     let r = ls.each (get_or links k d) (Contains-get_or links k d l) in
     record { from = r.2.from.inside; to = r.2.to.inside }
 
-pub turned_within : (n : ℕ) (links : List Link) → All (IsWithin n) links → All (IsWithin n) (map turn links)
-turned_within n links w = All-map (IsWithin n) turn links (λ k d l. record { from = (w k d l).to; to = (w k d l).from })
-
 pub whole_graph : (n : ℕ) (g : Graph) → IsGraph n g → IsGraph (g.starts.len - 1) g
 whole_graph n g is = subst (λ (m : ℕ). IsGraph m g) (omega (arith, is.starts.size, g.starts.ok.0)) is
-
-contains-turned : (links : List Link) (l : Link) → Contains links l → Contains (map turn links) (turn l)
-contains-turned links l (k, inside, e) = (k, omega (arith, length-map links turn), get_or-map turn links k l (turn l) inside ∙ ap turn e)
-
-contains-turn : (links : List Link) (l : Link) → Contains (map turn links) l → Contains links (turn l)
-contains-turn links l (k, inside, e) =
-    let short : k < length links = omega (arith, length-map links turn) in
-    (k, short, ap turn (sym (get_or-map turn links k (turn l) l short) ∙ e))
 
 -- distances in the graph of the turned links
 pub back_left : (es : List Edge) (nodes : List ℕ) (links others : List Link) (left : List ℕ) (node : ℕ) → AreLinks es nodes links → AreRising nodes →
@@ -128,9 +118,3 @@ pub back_left : (es : List Edge) (nodes : List ℕ) (links others : List Link) (
 back_left es nodes links others left node ls rising inside p d = are_left es nodes links ls rising left others node inside
     (λ l c. contains-turn links l (Contains-permutation others (map turn links) l (IsPermutation-sym (map turn links) others p) c))
     (λ l c. Contains-permutation (map turn links) others (turn l) p (contains-turned links l c)) d
-
--- distances in the graph of the links
-pub forth_gone : (es : List Edge) (nodes : List ℕ) (links others : List Link) (gone : List ℕ) (node : ℕ) → AreLinks es nodes links → AreRising nodes →
-    node < length nodes → IsPermutation links others → AreDistances others node gone → AreGone es nodes (at nodes node) gone
-forth_gone es nodes links others gone node ls rising inside p d = are_gone es nodes links ls rising gone others node inside
-    (λ l c. Contains-permutation others links l (IsPermutation-sym links others p) c) (λ l c. Contains-permutation links others l p c) d

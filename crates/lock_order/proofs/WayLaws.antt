@@ -8,7 +8,8 @@ use Rattle.graph_search.specs.Walks.{Walk, one, more, AreDistances}
 use Rattle.graph_search.specs.Searches.{at}
 use Rattle.lock_order.specs.declared.edge.Edge.{Edge}
 use Rattle.lock_order.specs.Cycles.{Leads, Reaches}
-use Rattle.lock_order.specs.Knots.{AreRising, IsNode, AreLinks, turn, AreLeft, AreGone}
+use Rattle.lock_order.specs.Knots.{AreRising, IsNode, AreLinks, AreLeft}
+use Rattle.graph_search.specs.Graphs.{turn}
 
 leads-push : (es : List Edge) (a b : ℕ) (p : List Edge) (e : Edge) → Leads es a b p → Contains es e → e.from ≡ b → Leads es a e.to (p ++ e ∷ [])
 leads-push es a b [] e l c f = (c, f ∙ sym l, refl)
@@ -46,12 +47,13 @@ walk-turned links others t {a} (one {l} c f) = subst (λ (x : ℕ). Walk links l
 walk-turned links others t {a} (more {m} {b} {l} w c f) =
     walk-front links l.to (turn l) (t l c) refl (subst (λ (x : ℕ). Walk links x m a) (sym f) (walk-turned links others t w))
 
-walk-among : (links others : List Link) → ((l : Link) → Contains others l → Contains links l) → {a m b : ℕ} → Walk others a m b → Walk links a m b
+pub walk-among : (links others : List Link) → ((l : Link) → Contains others l → Contains links l) → {a m b : ℕ} → Walk others a m b → Walk links a m b
 walk-among links others t (one {l} c f) = one (t l c) f
 walk-among links others t (more {m} {b} {l} w c f) = more (walk-among links others t w) (t l c) f
 
 module _ (es : List Edge) (nodes : List ℕ) (links : List Link) (ls : AreLinks es nodes links) where
-  leads-walked : {i m j : ℕ} → Walk links i m j → (p : List Edge) × Leads es (at nodes i) (at nodes j) p × (length p ≡ m)
+  -- a walk along the links as a way along the edges
+  pub leads-walked : {i m j : ℕ} → Walk links i m j → (p : List Edge) × Leads es (at nodes i) (at nodes j) p × (length p ≡ m)
   leads-walked {i} (one {l} c f) =
       let k = ls.each l c in
       (k.0 ∷ [], (k.1, sym k.2.from.is ∙ ap (at nodes) f, sym k.2.to.is), refl)
@@ -64,7 +66,8 @@ module _ (es : List Edge) (nodes : List ℕ) (links : List Link) (ls : AreLinks 
         omega (arith, length_push p.0 k.0, p.2),
       )
 
-  walk-led : AreRising nodes → (i j a b : ℕ) (p : List Edge) → 0 < length p → Leads es a b p → IsNode nodes a i → IsNode nodes b j → Walk links i (length p) j
+  -- a way along the edges as a walk along the links
+  pub walk-led : AreRising nodes → (i j a b : ℕ) (p : List Edge) → 0 < length p → Leads es a b p → IsNode nodes a i → IsNode nodes b j → Walk links i (length p) j
   walk-led rising i j a b [] s l x y = absurd (omega arith)
   walk-led rising i j a b (e ∷ []) s l x y =
       let k = ls.all e l.0 in
@@ -87,16 +90,4 @@ module _ (es : List Edge) (nodes : List ℕ) (links : List Link) (ls : AreLinks 
     reached = λ v l p. leads-walked (walk-turned links others t (d.reached v p));
     least = λ v p l s w. d.least (length p) v
         (walk-turned others links u (walk-led rising v node (at nodes v) (at nodes node) p s w (itself v l) (itself node inside)));
-  }
-
-  -- distances along the links
-  pub are_gone : AreRising nodes → (gone : List ℕ) (others : List Link) (node : ℕ) → node < length nodes →
-      ((l : Link) → Contains others l → Contains links l) → ((l : Link) → Contains links l → Contains others l) →
-      AreDistances others node gone → AreGone es nodes (at nodes node) gone
-  are_gone rising gone others node inside t u d = record {
-    reached = λ v l p.
-        let w = leads-walked (walk-among links others t (d.reached v p)) in
-        record { way = w.0; some = omega (arith, w.2); leads = w.1 };
-    all = λ v l r. (d.least (length r.way) v (walk-among others links u
-        (walk-led rising node v (at nodes node) (at nodes v) r.way r.some r.leads (itself node inside) (itself v l)))).0;
   }

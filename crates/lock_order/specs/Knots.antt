@@ -1,9 +1,10 @@
 -- Edges as a graph over numbered addresses, and what is known while their knots are collected.
-use Rattle.std.specs.Prelude.{◌≡◌, ℕ, ◌<◌, ◌≤◌, List, length, map, true, Bool, false, ◌⊎◌}
-use Rattle.std.specs.List.{Contains, slice_index_or}
+use Rattle.std.specs.Prelude.{◌≡◌, ℕ, ◌<◌, ◌≤◌, List, length, map, true, Bool, false}
+use Rattle.std.specs.List.{Contains}
 use Rattle.std.specs.List.Sorted.{IsStrictlyIncreasing}
 use Rattle.graph_search.specs.declared.graph.Link.{Link}
 use Rattle.graph_search.specs.Searches.{at}
+use Rattle.graph_search.specs.Descents.{flag}
 use Rattle.lock_order.specs.declared.edge.Edge.{Edge}
 use Rattle.lock_order.specs.declared.cycle.Cycle.{Cycle}
 use Rattle.lock_order.specs.Cycles.{Leads, Reaches, IsLeastOfKnot, IsCycleAt, start}
@@ -31,19 +32,11 @@ pub record AreLinks (es : List Edge) (nodes : List ℕ) (links : List Link) : Ty
   pub each : (l : Link) → Contains links l → (e : Edge) × Contains es e × IsLink nodes e l
   pub all : (e : Edge) → Contains es e → (l : Link) × Contains links l × IsLink nodes e l
 
-abbrev pub turn : Link → Link
-turn l = record { from = l.to; to = l.from }
-
 -- for each node how few edges lead from it to the address a, one at least, and 0 where none do
 pub record AreLeft (es : List Edge) (nodes : List ℕ) (a : ℕ) (left : List ℕ) : Type 0 where
   pub reached : (v : ℕ) → v < length nodes → 0 < at left v → (p : List Edge) × Leads es (at nodes v) a p × (length p ≡ at left v)
   pub least : (v : ℕ) (p : List Edge) → v < length nodes → 0 < length p → Leads es (at nodes v) a p →
       (0 < at left v) × (at left v ≤ length p)
-
--- which nodes are reached from the address a
-pub record AreGone (es : List Edge) (nodes : List ℕ) (a : ℕ) (gone : List ℕ) : Type 0 where
-  pub reached : (v : ℕ) → v < length nodes → 0 < at gone v → Reaches es a (at nodes v)
-  pub all : (v : ℕ) → v < length nodes → Reaches es a (at nodes v) → 0 < at gone v
 
 -- behind the edge so many more lead to the address a, and no fewer do
 pub record IsNear (nodes left : List ℕ) (a more : ℕ) (e : Edge) : Type 0 where
@@ -69,21 +62,28 @@ pub record AreTied (es : List Edge) (a b : ℕ) : Type 0 where
   pub forth : Reaches es a b
   pub back : Reaches es b a
 
-abbrev pub flag : List Bool → ℕ → Bool
-flag done v = slice_index_or done v false
+-- each node has the number of its knot: two have the same one exactly where each reaches the other
+pub record AreNumbered (es : List Edge) (nodes knots : List ℕ) : Type 0 where
+  pub size : length knots ≡ length nodes
+  pub tied : (i j : ℕ) → i < length nodes → j < length nodes → at knots i ≡ at knots j → (i ≡ j → ⊥) →
+      AreTied es (at nodes i) (at nodes j)
+  pub same : (i j : ℕ) → i < length nodes → j < length nodes →
+      AreTied es (at nodes i) (at nodes j) → at knots i ≡ at knots j
 
--- the knots of which the least address is among the first k nodes have their cycles, and their nodes are done
-pub record KnowsKnots (es : List Edge) (nodes : List ℕ) (k : ℕ) (done : List Bool) (cs : List Cycle) : Type 0 where
-  pub size : length done ≡ length nodes
-  pub marked : (v : ℕ) → v < length nodes → flag done v ≡ true → (i : ℕ) × (i < k) × AreTied es (at nodes i) (at nodes v)
-  pub unmarked : (i v : ℕ) → i < k → v < length nodes → AreTied es (at nodes i) (at nodes v) → flag done v ≡ true
+-- for each number of a knot whether a link stays within it
+pub record AreRinged (links : List Link) (knots : List ℕ) (ringed : List Bool) : Type 0 where
+  pub size : length ringed ≡ length knots
+  pub each : (n : ℕ) → flag ringed n ≡ true → (l : Link) × Contains links l × (at knots l.from ≡ n) × (at knots l.to ≡ n)
+  pub all : (l : Link) → Contains links l → at knots l.from ≡ at knots l.to → flag ringed (at knots l.to) ≡ true
+
+-- the knots of which the least address is among the first k nodes have their cycles, and wait no longer
+pub record KnowsKnots (es : List Edge) (nodes knots : List ℕ) (k : ℕ) (waits : List Bool) (cs : List Cycle) : Type 0 where
+  pub size : length waits ≡ length nodes
+  pub waiting : (v : ℕ) → v < length nodes → flag waits (at knots v) ≡ true → Reaches es (at nodes v) (at nodes v)
+  pub passed : (i : ℕ) → i < k → flag waits (at knots i) ≡ false
+  pub told : (v : ℕ) → v < length nodes → Reaches es (at nodes v) (at nodes v) → flag waits (at knots v) ≡ false →
+      (i : ℕ) × (i < k) × (at knots i ≡ at knots v)
   pub ordered : IsStrictlyIncreasing (map start cs)
   pub below : (c : Cycle) → Contains cs c → (i : ℕ) × (i < k) × (start c ≡ at nodes i)
   pub each : (c : Cycle) → Contains cs c → IsLeastOfKnot es (start c) × IsCycleAt es (start c) c.edges
   pub all : (i : ℕ) → i < k → IsLeastOfKnot es (at nodes i) → (c : Cycle) × Contains cs c × (start c ≡ at nodes i)
-
--- nodes below n that are reached and that reach are done, too
-pub record Marks (left gone : List ℕ) (n : ℕ) (done done' : List Bool) : Type 0 where
-  pub new : (v : ℕ) → v < n → 0 < at left v → 0 < at gone v → flag done' v ≡ true
-  pub kept : (v : ℕ) → flag done v ≡ true → flag done' v ≡ true
-  pub only : (v : ℕ) → flag done' v ≡ true → (flag done v ≡ true) ⊎ ((0 < at left v) × (0 < at gone v))

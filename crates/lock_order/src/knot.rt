@@ -1,15 +1,16 @@
 // The cycle of each knot of mutexes.
-ghost use Rattle.std.specs.Prelude.{◌≡◌, ◌<◌, ◌≤◌, ℕ, length, map, IfOk, vec_len};
+ghost use Rattle.std.specs.Prelude.{◌≡◌, ◌<◌, ◌≤◌, ℕ, length, IfOk};
 ghost use Rattle.std.specs.Bool.{MatchBool};
-ghost use Rattle.std.specs.List.{Contains};
+ghost use Rattle.std.specs.List.{All, Contains};
+ghost use Rattle.graph_search.specs.Graphs.{IsWithin};
 ghost use Rattle.graph_search.specs.Searches.{at};
 ghost use Rattle.lock_order.specs.Edges.{AreOrdered};
 ghost use Rattle.lock_order.specs.Cycles.{IsCycleAt, AreCycles};
-ghost use Rattle.lock_order.specs.Knots.{AreRising, AreNodes, IsNode, AreLinks, turn};
-ghost use Rattle.lock_order.specs.Knots.{AreLeft, IsNear, IsNext, HasNext, Marks};
+ghost use Rattle.lock_order.specs.Knots.{AreRising, AreNodes, IsNode, AreLinks, AreRinged};
+ghost use Rattle.lock_order.specs.Knots.{AreLeft, IsNear, IsNext, HasNext};
 
 use crate::{Cycle, Edge, Edges};
-use graph_search::{Graph, Link, distances};
+use graph_search::{Graph, Link, distances, knots};
 use run_record::{Items, NoMemory};
 use std::alloc::{AllocError, Global};
 
@@ -54,19 +55,6 @@ fn links(alloc: Global, nodes: &[u64], edges: &[Edge]) -> Result<Vec<Link>, Allo
         links.push(Link { from, to })?;
     }
     Ok(links)
-}
-
-/// The links the other way round.
-fn turned(alloc: Global, links: &[Link]) -> Result<Vec<Link>, AllocError>
-    ensures { IfOk result (λ v. v.items ≡ map turn links.now) }
-{
-    links
-        .iter()
-        .map(|link| Link {
-            from: link.to,
-            to: link.from,
-        })
-        .collect(alloc)
 }
 
 /// Whether exactly so many edges lead on behind this one, to the target.
@@ -134,18 +122,20 @@ fn cycle_at(
     Ok(Cycle { edges: cycle })
 }
 
-/// The nodes that are reached and reach are done.
-fn mark(done: &mut Vec<bool>, left: &[usize], gone: &[usize])
-    requires left { length left.now ≡ vec_len done.old }
-    requires gone { length gone.now ≡ vec_len done.old }
-    ensures size { vec_len done.new ≡ vec_len done.old }
-    ensures marks { Marks left.now gone.now (vec_len done.old) done.old.items done.new.items }
+/// For each number of a knot whether a link stays within it.
+fn ringed(alloc: Global, links: &[Link], knots: &[usize]) -> Result<Vec<bool>, AllocError>
+    requires within { All (IsWithin (length knots.now)) links.now }
+    requires numbers { All (λ n. n < length knots.now) knots.now }
+    ensures { IfOk result (λ v. AreRinged links.now knots.now v.items) }
 {
-    for node in 0..done.len() {
-        if left[node] > 0 && gone[node] > 0 {
-            done[node] = true;
+    let mut ringed = vec![in alloc; false; knots.len()]?;
+    for link in links {
+        let knot = knots[link.to];
+        if knots[link.from] == knot {
+            ringed[knot] = true;
         }
     }
+    Ok(ringed)
 }
 
 /// For each knot, a set of addresses of which each reaches each, its cycle: a shortest one from the least address, and
@@ -157,18 +147,17 @@ pub fn cycles(alloc: Global, edges: &Edges) -> Result<Cycles, NoMemory>
     let edges = edges.as_slice();
     let nodes = nodes(alloc, edges)?;
     let links = links(alloc, &nodes, edges)?;
-    let back = Graph::new(alloc, nodes.len(), turned(alloc, &links)?)?;
     let forth = Graph::new(alloc, nodes.len(), links)?;
-    let mut done = vec![in alloc; false; nodes.len()]?;
+    let back = forth.turned(alloc)?;
+    let knots = knots(alloc, &forth)?;
+    let mut waits = ringed(alloc, &forth.links, &knots)?;
     let mut cycles = Cycles::new(alloc);
     for node in 0..nodes.len() {
-        if !done[node] {
+        let knot = knots[node];
+        if waits[knot] {
+            waits[knot] = false;
             let left = distances(alloc, &back, node)?;
-            if left[node] > 0 {
-                let gone = distances(alloc, &forth, node)?;
-                cycles.push(cycle_at(alloc, edges, &nodes, &left, node)?)?;
-                mark(&mut done, &left, &gone);
-            }
+            cycles.push(cycle_at(alloc, edges, &nodes, &left, node)?)?;
         }
     }
     Ok(cycles)

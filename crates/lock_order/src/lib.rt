@@ -2,10 +2,10 @@
 //!
 //! Below stand `run_record`, with histories, `run_laws`, with the locks that a thread keeps at each moment,
 //! `trace_parts`, whose laws of such locks the proofs use, `report_text`, whose words for an address and a
-//! thread are used, and `graph_search`, whose `distances` are those of shortest ways from one mutex to another. `edges` lists
-//! each pair of mutexes of which one was taken while the other was kept; `cycles` gives for each knot of them, a set of which
-//! each reaches each, its first shortest cycle; `cycle_text` writes one, and `lock_text` all of a
-//! history, which `tsanrun_cli` tells for the command `locks`.
+//! thread are used, and `graph_search`, whose `knots` are those of mutexes and whose `distances` those of shortest ways from
+//! one mutex to another. `edges` lists each pair of mutexes of which one was taken while the other was kept; `cycles` gives
+//! for each knot of them, a set of which each reaches each, its first shortest cycle; `cycle_text` writes one, and
+//! `lock_text` all of a history, which `tsanrun_cli` tells for the command `locks`.
 #![tactic(auto)]
 
 mod cycle;

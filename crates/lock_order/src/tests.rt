@@ -179,6 +179,37 @@ fn two_orders_are_a_cycle(rt: HostRuntime) -> Result<(), Fail> {
     Ok(())
 }
 
+// Two pairs of mutexes, each taken in both orders; the one pair has nothing to do with the other. The addresses of one stand
+// between those of the other.
+#[test]
+fn two_knots_apart(rt: HostRuntime) -> Result<(), Fail> {
+    let first = [
+        lock(0x1000008),
+        lock(0x1000020),
+        unlock(0x1000020),
+        unlock(0x1000008),
+        lock(0x1000018),
+        lock(0x1000010),
+        unlock(0x1000010),
+        unlock(0x1000018),
+    ];
+    let second = [
+        lock(0x1000020),
+        lock(0x1000008),
+        unlock(0x1000008),
+        unlock(0x1000020),
+        lock(0x1000010),
+        lock(0x1000018),
+        unlock(0x1000018),
+        unlock(0x1000010),
+    ];
+    let text = told(rt.alloc(), &first, &second)?;
+    let expected =
+        b"lock cycle: 0x0000000001000008 0x0000000001000020\n  0x0000000001000008 then 0x0000000001000020 by main thread\n  0x0000000001000020 then 0x0000000001000008 by thread T1\nlock cycle: 0x0000000001000010 0x0000000001000018\n  0x0000000001000010 then 0x0000000001000018 by thread T1\n  0x0000000001000018 then 0x0000000001000010 by main thread\nlocks: 2 cycles\n";
+    assert_eq!(rt; text.as_slice(), expected.as_slice());
+    Ok(())
+}
+
 #[test]
 fn one_order_is_none(rt: HostRuntime) -> Result<(), Fail> {
     let (low, high) = (0x1000008, 0x1000010);

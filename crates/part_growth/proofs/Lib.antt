@@ -1,0 +1,12 @@
+pub mod Lists
+pub mod Gathering
+pub mod Deeds
+pub mod Needs
+pub mod Growing
+pub mod Slots
+pub mod Notes
+pub mod Finishing
+pub mod Plain
+pub mod Alone
+pub mod Spending
+pub mod Order

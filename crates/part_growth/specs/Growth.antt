@@ -1,5 +1,5 @@
 -- How a part of a round grows: instructions are gathered, and become a deed with the turn of an object.
-use Rattle.std.specs.Prelude.{◌≡◌, ◌≢◌, ◌<◌, ◌≤◌, ◌+◌, ◌⊎◌, max, ℕ, true, List, [], ◌∷◌, ◌++◌, length, sum_by, Option, None, Some}
+use Rattle.std.specs.Prelude.{◌≡◌, ◌≢◌, ◌<◌, ◌≤◌, ◌+◌, ◌⊎◌, ◌==◌, if◌then◌else◌, max, ℕ, zero, suc, true, false, List, [], ◌∷◌, ◌++◌, length, sum_by, Option, None, Some}
 use Rattle.std.specs.List.{AllZip, flat_map}
 use Rattle.run_record.specs.declared.limits.Limits.{Limits}
 use Rattle.run_record.specs.declared.event.Event.{Event}
@@ -14,20 +14,25 @@ use Rattle.turn_orders.specs.LineUp.{Stamped, with_stamp, LocalsFollow, last_loc
 use Rattle.machine_laws.specs.Events.{is_local}
 use Rattle.run_laws.specs.Labels.{raises}
 use Rattle.race_core.specs.Watched.{Watched}
-use Rattle.place_turns.specs.Places.{Value}
-use Rattle.turn_histories.specs.Entries.{IsAlive, IsPlaceOf, next_object}
+use Rattle.thread_events.specs.Heard.{lost_label}
+use Rattle.place_turns.specs.Places.{Local, Value}
+use Rattle.place_turns.specs.Turns.{steps, bare_turn}
+use Rattle.turn_histories.specs.Entries.{IsAlive, next_object}
 use Rattle.shared_table.specs.declared.object.Object.{Object}
 use Rattle.shared_table.specs.declared.view.Item.TheVariants.{Take, Give}
 use Rattle.shared_table.specs.Past.{Log}
 use Rattle.placed_detector.specs.Standing.{Hand, Held}
 use Rattle.placed_detector.specs.Instructions.{MakesInstruction}
-use Rattle.placed_detector.specs.Slots.{TakesSlot, LeavesSlot}
-use Rattle.deed_histories.specs.Deeds.{Made, all_events, all_checks, AreNumbered, TellsNote}
+use Rattle.deed_histories.specs.Deeds.{Made, all_events, all_checks, AreNumbered}
 use Rattle.deed_histories.specs.Lines.{entries_of, IsHandDeed}
-use Rattle.table_deeds.specs.Objects.{ObjectDeed, hand_deed, hand_deeds, held_in, last_in}
-use Rattle.hart_parts.specs.Parts.{IsStretch, all_touches, after_steps, IsNeedy, SpendsIn}
+use Rattle.table_deeds.specs.Objects.{slots_in, ObjectDeed, hand_deed, hand_deeds, held_in, last_in}
+use Rattle.hart_parts.specs.Parts.{Try, Part, left_in, part_entries, HasEnded, WantsSlot, IsPart, IsStretch, all_touches, after_steps, IsNeedy, SpendsIn}
 
 -- ---- instructions that were gathered
+
+-- the checks of all events, where each event has its own
+abbrev pub checks_in : List (List Check) → List Check
+checks_in css = flat_map (λ (cs : List Check). cs) css
 
 -- how many instructions a thread has made since its last deed, their events, and the checks of these
 pub record Gathered : Type 0 where
@@ -48,7 +53,8 @@ pub record MakesLocal (file : List ℕ) (harts era t : ℕ) (x : Made) (found le
 -- such instructions, one after another
 abbrev pub AreLocal : List ℕ → ℕ → ℕ → ℕ → List Made → Hand → Hand → Type 0
 AreLocal file harts era t [] found left = found ≡ left
-AreLocal file harts era t (x ∷ xs) found left = (hand : Hand) × MakesLocal file harts era t x found hand × AreLocal file harts era t xs hand left
+AreLocal file harts era t (x ∷ xs) found left =
+    (hand : Hand) × MakesLocal file harts era t x found hand × AreLocal file harts era t xs hand left
 
 -- the thread gathered these, from its last deed on
 pub record IsGathered (file : List ℕ) (harts era t : ℕ) (found now : Hand) (g : Gathered) : Type 0 where
@@ -56,12 +62,32 @@ pub record IsGathered (file : List ℕ) (harts era t : ℕ) (found now : Hand) (
   pub local : AreLocal file harts era t made found now
   pub steps : g.steps ≡ length made
   pub events : g.events ≡ all_events made
-  pub checks : g.checks ≡ flat_map (λ (cs : List Check). cs) (all_checks made)
+  pub checks : g.checks ≡ checks_in (all_checks made)
   pub numbered : AreNumbered 0 (all_checks made)
 
 -- one more instruction, with these events and the checks of each
 abbrev pub gathered_with : Gathered → List Event → List (List Check) → Gathered
-gathered_with g es css = record { steps = g.steps + 1; events = g.events ++ es; checks = g.checks ++ flat_map (λ (cs : List Check). cs) css }
+gathered_with g es css = record { steps = g.steps + 1; events = g.events ++ es; checks = g.checks ++ checks_in css }
+
+-- An instruction without an object, without events and without need of a slot, from one own state of the thread to another.
+pub record IsPlain (file : List ℕ) (harts t : ℕ) (found left : Local) : Type 0 where
+  pub alive : IsAlive found
+  pub without_object : next_object file t found.thread ≡ None
+  pub without_need : thread_needs file t found.thread ≡ false
+  pub turned : (v : Value) → bare_turn file harts t steps found v ≡ record { local = left; value = v; told = [] }
+
+-- so many of these, one after another
+abbrev pub ArePlain : List ℕ → ℕ → ℕ → ℕ → Local → Local → Type 0
+ArePlain file harts t zero found left = found ≡ left
+ArePlain file harts t (suc n) found left = (next : Local) × ArePlain file harts t n found next × IsPlain file harts t next left
+
+-- the thread with that own state, and all else as it was
+abbrev pub with_bare : Hand → Local → Hand
+with_bare l bare = record { bare = bare; watched = l.watched; given = l.given }
+
+-- so many more, without events
+abbrev pub gathered_more : Gathered → ℕ → Gathered
+gathered_more g n = record { steps = g.steps + n; events = g.events; checks = g.checks }
 
 -- ---- what is owed
 
@@ -87,12 +113,14 @@ Owes limits d (leave_of l) = SpendsIn limits d l
 abbrev pub ArePaid : List ℕ → Limits → Owing → List ObjectDeed → Owing → Type 0
 ArePaid file limits owed [] owing = owed ≡ owing
 ArePaid file limits owed (d ∷ ds) owing =
-    (next : Owing) × Meets file limits owed d × Owes limits d next × (IsNeedy file limits d → d.local_found.state.watched.label ≢ None)
+    (next : Owing) × Meets file limits owed d × Owes limits d next
+    × (IsNeedy file limits d → d.local_found.state.watched.label ≢ None)
     × ArePaid file limits next ds owing
 
 -- what is owed after an instruction of the thread in that state, before its events
 abbrev pub IsPaidBy : List ℕ → ℕ → Hand → Owing → Owing → Type 0
-IsPaidBy file t now needy owing = ((owing ≡ needy) × (thread_needs file t now.bare.thread ≢ true)) ⊎ ((owing ≡ nothing) × (thread_needs file t now.bare.thread ≡ true))
+IsPaidBy file t now needy owing =
+    ((owing ≡ needy) × (thread_needs file t now.bare.thread ≢ true)) ⊎ ((owing ≡ nothing) × (thread_needs file t now.bare.thread ≡ true))
 IsPaidBy file t now owed owing = owing ≡ owed
 
 -- ---- needs among what was gathered
@@ -109,8 +137,8 @@ IsOwedWith file harts t found g nothing owed = owed ≡ nothing
 IsOwedWith file harts t found g needy owed = (owed ≡ needy) ⊎ ((owed ≡ nothing) × NeedsWithin file harts t found g)
 IsOwedWith file harts t found g (leave_of l) owed = (owed ≡ leave_of l) × (g.steps ≡ 0)
 
--- what the last of an instruction's events leaves to be owed, where the thread's watcher was that before it: the leave of its slot,
--- where the event raises the greatest epoch
+-- what the last of an instruction's events leaves to be owed, where the thread's watcher was that before it: the leave
+-- of its slot, where the event raises the greatest epoch
 pub record SpendsBy (limits : Limits) (w : Watched) (es : List Event) (l : Label) : Type 0 where
   pub before : List Event
   pub event : Event
@@ -123,6 +151,15 @@ abbrev pub IsOwedBy : Limits → Watched → List Event → Owing → Type 0
 IsOwedBy limits w es nothing = (l : Label) → SpendsBy limits w es l → ⊥
 IsOwedBy limits w es needy = ⊥
 IsOwedBy limits w es (leave_of l) = SpendsBy limits w es l
+
+-- the label that the event spends, where the thread's watcher was that before it
+abbrev pub spent_by : Event → Watched → Option Label
+spent_by e w = if raises e == 1 then lost_label w else None
+
+-- and what is owed then
+abbrev pub owing_of : Option Label → Owing
+owing_of None = nothing
+owing_of (Some l) = leave_of l
 
 -- ---- a part so far
 
@@ -159,3 +196,73 @@ pub record IsTurn (k : ℕ) (old new : Log) (number : ℕ) (touches : Log) (foun
   pub log : new ≡ old ++ Take k number ∷ (touches ++ Give k number found left ∷ [])
   pub stamp_is : stamp ≡ max last (last_in found) + 1
   pub left_there : last_in left ≡ stamp
+
+-- The entry of what was gathered and of one more instruction with these events and the checks of each, which drew that stamp.
+pub record IsEntryWith (t : ℕ) (g : Gathered) (es : List Event) (css : List (List Check)) (stamp : ℕ) (e : Entry) : Type 0 where
+  pub thread : e.tid ≡ t
+  pub steps : e.steps ≡ g.steps + 1
+  pub note : e.note ≡ Nothing
+  pub events : e.events ≡ g.events ++ es
+  pub checks : e.checks ≡ g.checks ++ checks_in css
+  pub stamp_is : e.stamp ≡ stamp
+
+-- and the entry of what was gathered alone
+pub record IsEntryOf (t : ℕ) (g : Gathered) (stamp : ℕ) (e : Entry) : Type 0 where
+  pub thread : e.tid ≡ t
+  pub steps : e.steps ≡ g.steps
+  pub note : e.note ≡ Nothing
+  pub events : e.events ≡ g.events
+  pub checks : e.checks ≡ g.checks
+  pub stamp_is : e.stamp ≡ stamp
+
+-- A part whose thread took a slot: its deeds lead to what the thread had with the slot before the instructions that were gathered,
+-- and one of the instructions to come needs it.
+pub record HasAttached (file : List ℕ) (limits : Limits) (era t : ℕ) (before : Stamped Hand) (log : Log) (entries : List Entry)
+    (now : Hand) (last : ℕ) (g : Gathered) : Type 0 where
+  pub found : Hand
+  pub so_far : SoFar file limits era t before log entries found now last g needy
+
+-- ---- the end of a part
+
+-- how many instructions a part has made so far
+abbrev pub made_so_far : List Entry → Gathered → ℕ
+made_so_far entries g = sum_by (λ (e : Entry). e.steps) entries + g.steps
+
+-- The thread is starved: it has no label where its next instruction wants one, and its last turn of the desk found no free slot.
+pub record Starves (file : List ℕ) (limits : Limits) (t : ℕ) (now : Hand) (tried : Option Try) : Type 0 where
+  pub unlabelled : now.watched.label ≡ None
+  pub wants : WantsSlot file t now.bare.thread
+  pub try_ : Try
+  pub tried_is : tried ≡ Some try_
+  pub none_free : (slots_in limits try_.found).queue ≡ []
+
+-- It stops after as many instructions as it was given, and after fewer only where it ended or is starved. It tries in vain only then.
+pub record Stops (file : List ℕ) (limits : Limits) (t given made : ℕ) (now : Hand) (tried : Option Try) : Type 0 where
+  pub no_more : made ≤ given
+  pub fewer : made < given → HasEnded now.bare.thread ⊎ Starves file limits t now tried
+  pub tried_only : (x : Try) → tried ≡ Some x → (made < given) × Starves file limits t now tried
+
+-- what was gathered last gets an entry of its own, if it is anything
+abbrev pub IsLastOf : ℕ → Gathered → ℕ → Option Entry → Type 0
+IsLastOf t g last None = g.steps ≡ 0
+IsLastOf t g last (Some e) = (g.steps ≢ 0) × IsEntryOf t g (last + 1) e
+
+abbrev pub with_last : List Entry → Option Entry → List Entry
+with_last entries None = entries
+with_last entries (Some e) = entries ++ e ∷ []
+
+abbrev pub stamp_with : ℕ → Option Entry → ℕ
+stamp_with last None = last
+stamp_with last (Some e) = last + 1
+
+-- There is a part of that thread, which began so, was given so many, and left this log, these entries and that.
+pub record IsFinished (file : List ℕ) (limits : Limits) (era t given : ℕ) (before : Stamped Hand) (log : Log) (entries : List Entry)
+    (left : Stamped Hand) : Type 0 where
+  pub part : Part
+  pub is_part : IsPart file limits era part
+  pub thread : part.thread ≡ t
+  pub before_is : part.before ≡ before
+  pub given_is : part.given ≡ given
+  pub log_is : part.log ≡ log
+  pub left_is : left_in part ≡ left
+  pub entries_are : part_entries file limits part ≡ entries

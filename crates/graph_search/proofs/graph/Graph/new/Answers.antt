@@ -1,23 +1,53 @@
-use Rattle.std.proofs.Common.{List, rules, sym, subst}
+use Rattle.std.proofs.Common.{◌≡◌, ◌+◌, ◌<◌, ℕ, List, ◌∷◌, [], ◌++◌, length, arith, sym, ap, ◌∙◌, subst, Vec, Global}
 use Rattle.std.specs.List.{All}
-use Rattle.std.specs.List.Sorted.{IsNonDecreasingBy}
-use Rattle.std.proofs.lemmas.List.Sorted.{IsNonDecreasingBy-from_sort_by_key, All-permutation}
+use Rattle.std.specs.List.Sorted.{IsPermutation}
+use Rattle.std.proofs.lemmas.List.{take_all}
+use Rattle.std.proofs.lemmas.List.Sorted.{All-permutation}
 use Rattle.graph_search.specs.declared.graph.Link.{Link}
-use Rattle.graph_search.specs.Graphs.{IsWithin, AreStarts}
+use Rattle.graph_search.specs.Graphs.{IsWithin, AreStarts, row_links}
+use Rattle.graph_search.proofs.RowLaws.{AreFirst, first-more, first-all, row_links-more}
 use Rattle.graph_search.proofs.graph.Graph.new.Goals as goal
 
-pub starts-requires-clause-sorted : goal.starts-requires-clause-sorted
-starts-requires-clause-sorted c =
-    subst (λ (ls : List Link). IsNonDecreasingBy (λ (l : Link). l.from) ls) (sym c.deref.ensures.value)
-    (IsNonDecreasingBy-from_sort_by_key (λ (l : Link). l.from) _ c.in_ok-sort_by_key.ensures.sorted (λ a r q k. search rules))
-
-pub starts-requires-clause-within : goal.starts-requires-clause-within
-starts-requires-clause-within c =
-    subst (λ (ls : List Link). All (IsWithin c.args.nodes) ls) (sym c.deref.ensures.value)
-    (All-permutation (IsWithin c.args.nodes) c.args.links.items c.sort_by_key.new.self.items c.sort_by_key.ensures.permutation c.requires.within)
+pub loop-row-preserved : goal.loop-row-preserved
+loop-row-preserved c =
+    let n = c.loop-row.row-index in
+    let rows = c.deref-row-items.result.now in
+    let row = c.row-item.result in
+    let links = c.loop-row.links.items in
+    let starts = c.loop-row.starts.items in
+    let inside : n < length rows = omega arith in
+    let rs = rw (sym c.deref-row-items.ensures.value) at c.in_ok-rows.ensures.own in
+    let small : n < c.args.nodes = omega (arith, c.in_ok-rows.ensures.size, ap (length {A = Vec Link Global}) c.deref-row-items.ensures.value) in
+    let own : All (λ (l : Link). l.from ≡ n) row.items =
+    subst (λ (v : Vec Link Global). All (λ (l : Link). l.from ≡ n) v.items) (sym c.row-item.is) (rs n row small) in
+    let here : c.extend_from_slice.new.self.items ≡ links ++ row.items =
+    c.in_ok-extend_from_slice.ensures.items ∙ ap (λ (xs : List Link). links ++ xs) c.deref-in-loop-row.ensures.value in
+    let count : c.len.result ≡ length links = omega (arith, c.len.ensures, c.loop-row.links.ok.0) in
+    let starting : c.push.new.self.items ≡ starts ++ length links ∷ [] = c.in_ok-push.ensures.items ∙ ap (λ (m : ℕ). starts ++ m ∷ []) count in
+    record {
+      first = subst (λ (xs : List Link). AreFirst (n + 1) xs c.push.new.self.items) (sym here)
+          (subst (λ (ss : List ℕ). AreFirst (n + 1) (links ++ row.items) ss) (sym starting)
+          (first-more n links row.items starts c.loop-row.invariant.first own));
+      is = here ∙ (ap (λ (xs : List Link). xs ++ row.items) c.loop-row.invariant.is ∙ sym (row_links-more rows n row inside c.row-item.is));
+    }
 
 pub returns-clause-graph : goal.returns-clause-graph
-returns-clause-graph c = record {
-  within = All-permutation (IsWithin c.args.nodes) c.args.links.items c.sort_by_key.new.self.items c.sort_by_key.ensures.permutation c.requires.within;
-  starts = subst (λ (ls : List Link). AreStarts c.args.nodes ls c.in_ok-starts.starts.items) c.deref.ensures.value c.in_ok-starts.ensures;
-}
+returns-clause-graph c =
+    let n = c.loop-row.row-index in
+    let rows = c.deref-row-items.result.now in
+    let links = c.loop-row.links.items in
+    let starts = c.loop-row.starts.items in
+    let nodes = c.args.nodes in
+    let size : length rows ≡ nodes = ap (length {A = Vec Link Global}) c.deref-row-items.ensures.value ∙ c.in_ok-rows.ensures.size in
+    let last : n ≡ nodes = omega arith in
+    let all : links ≡ row_links c.in_ok-rows.rows.items =
+    c.loop-row.invariant.is ∙ (ap row_links (take_all n rows (omega arith)) ∙ ap row_links c.deref-row-items.ensures.value) in
+    let same : IsPermutation c.args.links.items links =
+    subst (IsPermutation c.args.links.items) (sym all) (subst (λ (xs : List Link). IsPermutation xs (row_links c.in_ok-rows.rows.items)) c.deref.ensures.value
+    c.in_ok-rows.ensures.same) in
+    let count : c.len-2.result ≡ length links = omega (arith, c.len-2.ensures, c.loop-row.links.ok.0) in
+    let starting : c.push-2.new.self.items ≡ starts ++ length links ∷ [] = c.in_ok-push-2.ensures.items ∙ ap (λ (m : ℕ). starts ++ m ∷ []) count in
+    record {
+      within = All-permutation (IsWithin nodes) c.args.links.items links same c.requires.within;
+      starts = subst (AreStarts nodes links) (sym starting) (first-all nodes n links starts last c.loop-row.invariant.first);
+    }

@@ -1,0 +1,3 @@
+pub mod Checking
+pub mod Resting
+pub mod OneEvent

@@ -1,0 +1,4 @@
+pub mod Checks
+pub mod Hearing
+pub mod Slots
+pub mod Places

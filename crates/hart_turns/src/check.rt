@@ -1,0 +1,118 @@
+// The checks of an access, at the shadow cells of the table.
+ghost use Rattle.std.specs.Prelude.{◌≡◌, ◌≢◌, ◌+◌, ◌*◌, ◌%◌, ◌<◌, ◌≤◌, ◌^◌, ℕ, Some, length, option_map, All, IsSome, IsSomeAnd, IfOk};
+ghost use Rattle.elf_image.specs.File.{granules_of};
+ghost use Rattle.run_laws.specs.Accesses.{access_of};
+ghost use Rattle.shared_table.specs.Past.{IsCellWord};
+ghost use Rattle.shared_table.specs.Seats.{IsSeatOf};
+ghost use Rattle.hart_parts.specs.Parts.{loads_from, store_at, touches_of};
+ghost use Rattle.hart_turns.specs.Checks.{with_items, IsCheckOn, CanCheck, Checks};
+
+use elf_image::Image;
+use race_core::Watcher;
+use run_record::{Check, CheckList, Event, NoMemory};
+use shared_table::{Shared, SharedSeat};
+
+// The words of a granule's four cells, which other threads may store meanwhile.
+fn load_four(shared: &Shared, seat: &mut SharedSeat, granule: u32) -> [u64; 4]
+    requires own { IsSeatOf shared.now seat.old }
+    requires granule { granule < shared.now.layout.granules }
+    requires few { 4 * shared.now.layout.granules < 2 ^ 32 }
+    ensures own { IsSeatOf shared.now seat.new }
+    ensures log { seat.new.me ≡ with_items (loads_from (4 * granule) result) seat.old.me }
+    ensures four { length result ≡ 4 }
+    ensures words { All (λ (w : ℕ). w ≢ 0 → IsCellWord shared.now.layout w) result }
+{
+    let first = 4 * granule;
+    let one = shared.load_cell(seat, first);
+    let two = shared.load_cell(seat, first + 1);
+    let three = shared.load_cell(seat, first + 2);
+    let four = shared.load_cell(seat, first + 3);
+    [one, two, three, four]
+}
+
+// The word, in the cell of the granule that is told, if any.
+fn store(shared: &Shared, seat: &mut SharedSeat, granule: u32, stored: Option<(u8, u64)>)
+    requires own { IsSeatOf shared.now seat.old }
+    requires granule { granule < shared.now.layout.granules }
+    requires few { 4 * shared.now.layout.granules < 2 ^ 32 }
+    requires cell { (s : ℕ × ℕ) → stored ≡ Some s → (s.0 < 4) × IsCellWord shared.now.layout s.1 }
+    ensures own { IsSeatOf shared.now seat.new }
+    ensures log { seat.new.me ≡ with_items (store_at granule stored) seat.old.me }
+{
+    if let Some((cell, word)) = stored {
+        shared.store_cell(seat, 4 * granule + cell as u32, word);
+    }
+}
+
+// What is stored: the word, in the cell that is told.
+fn stored_word(cell: Option<u8>, word: u64) -> Option<(u8, u64)>
+    ensures { result ≡ option_map (λ (i : ℕ). (i, word)) cell }
+{
+    match cell {
+        Some(cell) => Some((cell, word)),
+        None => None,
+    }
+}
+
+// Checks one part of an access.
+fn check(
+    shared: &Shared,
+    seat: &mut SharedSeat,
+    watcher: &Watcher,
+    event: &Event,
+    place: u32,
+    turn: u8,
+    granule: u32,
+    mask: u8,
+) -> Check
+    requires own { IsSeatOf shared.now seat.old }
+    requires granule { granule < shared.now.layout.granules }
+    requires few { 4 * shared.now.layout.granules < 2 ^ 32 }
+    requires can { CanCheck shared.now.layout.limits watcher.now }
+    requires access { IsSome (access_of event.now) }
+    requires some_byte { mask ≢ 0 }
+    requires a_turn { turn ≤ 3 }
+    ensures own { IsSeatOf shared.now seat.new }
+    ensures check { IsCheckOn watcher.now event.now place turn granule mask result }
+    ensures log { seat.new.me ≡ with_items (touches_of result) seat.old.me }
+{
+    let cells = load_four(shared, seat, granule);
+    let (word, decision) = watcher.check_part(event, mask, cells, turn);
+    let stored = stored_word(decision.store, word);
+    store(shared, seat, granule, stored);
+    Check {
+        event: place,
+        granule,
+        word,
+        turn,
+        cells,
+        stored,
+    }
+}
+
+/// Checks each part of an access, which is the event of that place in its entry. The checks are appended.
+pub fn check_access(
+    shared: &Shared,
+    seat: &mut SharedSeat,
+    image: &Image<'_>,
+    watcher: &Watcher,
+    event: &Event,
+    place: u32,
+    checks: &mut CheckList,
+) -> Result<(), NoMemory>
+    requires own { IsSeatOf shared.now seat.old }
+    requires granules { shared.now.layout.granules ≡ granules_of image.now }
+    requires can { CanCheck shared.now.layout.limits watcher.now }
+    requires access { IsSome (access_of event.now) }
+    ensures own { IsSeatOf shared.now seat.new }
+    ensures checked { IfOk result (λ done. Checks image.now watcher.now event.now place checks.old checks.new seat.old.me seat.new.me) }
+{
+    image.accepted();
+    let turn = (watcher.trace().count() % 4) as u8;
+    let mut parts = watcher.plan_access(image, event);
+    'parts: while let Some((granule, mask)) = parts.next() {
+        let check = check(shared, seat, watcher, event, place, turn, granule, mask);
+        checks.push(check)?;
+    }
+    Ok(())
+}

@@ -1,0 +1,9 @@
+pub mod Lists
+pub mod Spots
+pub mod Notes
+pub mod Walk
+pub mod Calm
+pub mod Needs
+pub mod Found
+pub mod Rounds
+pub mod Histories

@@ -1,0 +1,12 @@
+pub mod Alike
+pub mod Standing
+pub mod Listed
+pub mod Tries
+pub mod Desks
+pub mod New
+pub mod Threads
+pub mod Seats
+pub mod Dues
+pub mod Opened
+pub mod Vain
+pub mod Whole
