@@ -1,3 +1,4 @@
 pub mod Checking
 pub mod Resting
 pub mod OneEvent
+pub mod AllEvents

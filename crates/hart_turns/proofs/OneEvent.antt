@@ -302,7 +302,7 @@ heard_map P Q (Err e) f h = tt
 
 -- ---- events that leave the place as it is
 
-same_bare : (place : Option Object) → SameBare place place
+pub same_bare : (place : Option Object) → SameBare place place
 same_bare None = tt
 same_bare (Some (Stripe s)) = (refl, refl, refl)
 same_bare (Some (Desk d)) = (refl, refl)

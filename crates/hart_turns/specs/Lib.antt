@@ -2,3 +2,4 @@ pub mod Checks
 pub mod Hearing
 pub mod Slots
 pub mod Places
+pub mod Instructions
