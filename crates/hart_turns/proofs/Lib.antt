@@ -2,3 +2,4 @@ pub mod Checking
 pub mod Resting
 pub mod OneEvent
 pub mod AllEvents
+pub mod Making

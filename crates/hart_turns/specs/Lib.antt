@@ -3,3 +3,4 @@ pub mod Hearing
 pub mod Slots
 pub mod Places
 pub mod Instructions
+pub mod Makes

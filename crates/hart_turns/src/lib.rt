@@ -13,10 +13,12 @@ mod check;
 mod events;
 mod hear;
 mod instruction;
+mod make;
 mod slots;
 
 pub use check::check_access;
 pub use events::hear_event;
 pub use hear::Hearing;
 pub use instruction::hear_all;
+pub use make::make_alone;
 pub use slots::{ThreadState, leave_slot, take_slot};
