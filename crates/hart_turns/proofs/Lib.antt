@@ -3,3 +3,4 @@ pub mod Resting
 pub mod OneEvent
 pub mod AllEvents
 pub mod Making
+pub mod Serving

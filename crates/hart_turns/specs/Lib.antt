@@ -4,3 +4,4 @@ pub mod Slots
 pub mod Places
 pub mod Instructions
 pub mod Makes
+pub mod Serves

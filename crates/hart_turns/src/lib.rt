@@ -14,6 +14,7 @@ mod events;
 mod hear;
 mod instruction;
 mod make;
+mod serve;
 mod slots;
 
 pub use check::check_access;
