@@ -4,3 +4,4 @@ pub mod OneEvent
 pub mod AllEvents
 pub mod Making
 pub mod Serving
+pub mod AtStripes

@@ -4,6 +4,8 @@ use Rattle.run_record.specs.declared.event.Event.{Event}
 use Rattle.bare_machine.specs.declared.request.Request.{Request}
 use Rattle.bare_machine.specs.declared.request.Request.TheVariants as kinds
 use Rattle.bare_machine.specs.Memory as memory
+use Rattle.shared_table.specs.declared.object.Object.{Object}
+use Rattle.shared_table.specs.declared.object.Object.TheVariants.{Stripe as InStripe}
 use Rattle.shared_table.specs.declared.object.Stripe.{Stripe}
 use Rattle.hart_steps.specs.declared.hart.Hart.{Hart}
 use Rattle.hart_steps.specs.Asked.{Asks}
@@ -36,3 +38,8 @@ pub record ServedAt (file : List ℕ) (k t : ℕ) (r : Request) (asked left : Ha
   pub size : length s'.words ≡ length s.words
   pub sync_is : s'.sync ≡ s.sync
   pub last_is : s'.last ≡ s.last
+
+-- The object is a stripe and stays one, where the request was served.
+abbrev pub ServedIn : List ℕ → ℕ → ℕ → Request → Hart → Hart → Option Object → Option Object → List Event → Type 0
+ServedIn file k t r asked left (Some (InStripe s)) (Some (InStripe s')) es = ServedAt file k t r asked left s.value s'.value es
+ServedIn file k t r asked left _ _ es = ⊥

@@ -21,5 +21,5 @@ pub use check::check_access;
 pub use events::hear_event;
 pub use hear::Hearing;
 pub use instruction::hear_all;
-pub use make::make_alone;
+pub use make::{make_alone, make_at_stripe};
 pub use slots::{ThreadState, leave_slot, take_slot};

@@ -1,15 +1,19 @@
 // Whole instructions: what the thread asked for is served, and the events are heard.
 ghost use Rattle.std.specs.Prelude.{◌≡◌, [], IfOk};
-ghost use Rattle.bare_machine.specs.Asked.{IsSound, IsShallow};
+ghost use Rattle.bare_machine.specs.Asked.{IsSound, IsShallow, IsWithin};
 ghost use Rattle.elf_image.specs.File.{granules_of};
 ghost use Rattle.shared_table.specs.Seats.{IsSeatOf};
 ghost use Rattle.hart_turns.specs.Hearing.{IsHeard};
 ghost use Rattle.hart_turns.specs.Places.{IsPlace};
 ghost use Rattle.hart_turns.specs.Instructions.{HearsAll};
-ghost use Rattle.hart_turns.specs.Makes.{UsesNothing, MakesAlone};
+ghost use Rattle.hart_turns.specs.Makes.{UsesNothing, MakesAlone, MakesAtStripe};
+ghost use Rattle.hart_turns.specs.Serves.{UsesStripe, HasAsked};
+ghost use Rattle.shared_table.specs.Layouts.{IsTableOf};
+ghost use Rattle.shared_table.specs.Past.{IsSoundSlot};
 
 use crate::hear::Hearing;
 use crate::instruction::hear_all;
+use crate::serve::serve_at_place;
 use bare_machine::Request;
 use elf_image::Image;
 use entry_calls::CallEvents;
@@ -94,5 +98,43 @@ pub fn make_alone(
         events,
         base,
         checks,
+    )
+}
+
+/// The same for one that uses the stripe of that number, which the thread has taken.
+pub fn make_at_stripe(
+    shared: &Shared,
+    seat: &mut SharedSeat,
+    image: &Image<'_>,
+    limits: &Limits,
+    tid: u32,
+    hart: &mut Hart,
+    watcher: &mut Watcher,
+    given: &Clock,
+    request: &Request,
+    place: &mut Option<Object>,
+    number: u32,
+    events: &mut CallEvents,
+    base: u32,
+    checks: &mut CheckList,
+) -> Result<Hearing, NoMemory>
+    requires own { IsSeatOf shared.now seat.old }
+    requires table { IsTableOf image.now limits.now shared.now }
+    requires place { IsSoundSlot shared.now.layout number place.old }
+    requires uses { UsesStripe number request.now }
+    requires asked { HasAsked image.now tid hart.old request.now }
+    requires sound { IsSound request.now }
+    requires shallow { IsShallow request.now hart.old.thread.depth }
+    requires within { IsWithin image.now request.now }
+    requires empty { events.old ≡ [] }
+    ensures own { IsSeatOf shared.now seat.new }
+    ensures made { IfOk result (IsHeard (MakesAtStripe image.now limits.now shared.now.layout number tid given.now base request.now hart.old hart.new
+        watcher.old watcher.new place.old place.new events.new checks.old checks.new seat.old.me seat.new.me)) }
+{
+    if !serve_at_place(shared, image, tid, hart, request, place, number, events)? {
+        return Ok(Hearing::Refused);
+    }
+    hear_told(
+        shared, seat, image, limits, tid, watcher, given, place, number, events, base, checks,
     )
 }
