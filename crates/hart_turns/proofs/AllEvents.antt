@@ -1,5 +1,5 @@
 -- The events of an instruction so far, and one more.
-use Rattle.std.proofs.Common.{◌≡◌, ◌≤◌, ◌<◌, ◌+◌, ℕ, zero, suc, false, Bool, true, Option, Some, None, List, [], ◌∷◌, ◌++◌, length, get_or, flat_map, cond, ◌==◌, append-nil, append_assoc, length-append, refl, ap, ap₂, sym, subst, ◌∙◌, arith}
+use Rattle.std.proofs.Common.{◌≡◌, ◌≤◌, ◌<◌, ◌+◌, ℕ, suc, Option, Some, None, List, [], ◌∷◌, ◌++◌, length, get_or, flat_map, cond, ◌==◌, append-nil, append_assoc, length-append, refl, ap, ap₂, sym, subst, ◌∙◌, arith}
 use Rattle.std.specs.List.{AllZip}
 use Rattle.std.proofs.lemmas.Grind.{flat_map-append}
 use Rattle.std.proofs.lemmas.List.{flat_map_more}
@@ -10,7 +10,7 @@ use Rattle.run_record.specs.declared.event.Event.TheVariants as events
 use Rattle.run_record.specs.declared.limits.Limits.{Limits}
 use Rattle.run_laws.specs.Accesses.{Access, Part, access_of, parts_of}
 use Rattle.run_laws.specs.Checks.{StoresRightly}
-use Rattle.run_laws.specs.Labels.{raises, is_end}
+use Rattle.run_laws.specs.Labels.{raises}
 use Rattle.elf_image.specs.File.{granule_of}
 use Rattle.turn_orders.specs.Lists.{Each}
 use Rattle.turn_orders.proofs.Members.{each_append, each_parts}
@@ -18,7 +18,7 @@ use Rattle.slot_desk.specs.Desks.{DeskContents}
 use Rattle.slot_desk.specs.Steps.{new_desk}
 use Rattle.sync_slab.specs.Objects.{SyncObjects}
 use Rattle.race_core.specs.Watched.{Watched, next_label, raised_to}
-use Rattle.thread_events.specs.Heard.{watcher_after, raised_or_lost_to, lost_label, lost_label_to}
+use Rattle.thread_events.specs.Heard.{watcher_after, raised_or_lost_to, lost_label_to}
 use Rattle.watched_turns.specs.Checking.{Loads, four}
 use Rattle.watched_turns.specs.Right.{AreLoaded}
 use Rattle.shared_table.specs.declared.object.Object.{Object}

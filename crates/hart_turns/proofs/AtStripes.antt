@@ -1,13 +1,12 @@
 -- An instruction that is made at a stripe.
 use Rattle.std.specs.Global.{Box}
-use Rattle.std.proofs.Common.{◌≡◌, ◌<◌, ℕ, Bool, true, Option, Some, None, List, length, cond, refl, ap, sym, subst, ◌∙◌, arith}
+use Rattle.std.proofs.Common.{◌≡◌, ◌<◌, ℕ, Bool, Option, Some, None, List, length, cond, refl, ap, sym, subst, ◌∙◌}
 use Rattle.std.proofs.lemmas.Bool.{lt-ltb}
 use Rattle.run_record.specs.declared.entry.Check.{Check}
 use Rattle.run_record.specs.declared.entry.Label.{Label}
 use Rattle.run_record.specs.declared.event.Event.{Event}
 use Rattle.run_record.specs.declared.limits.Limits.{Limits}
 use Rattle.bare_machine.specs.declared.request.Request.{Request}
-use Rattle.bare_machine.specs.Asked.{asked}
 use Rattle.bare_machine.specs.Requests.{object_of, request}
 use Rattle.place_turns.specs.Places.{Value, IsAt, of_nobody}
 use Rattle.slot_desk.specs.Steps.{new_desk}
@@ -24,23 +23,13 @@ use Rattle.hart_steps.specs.declared.hart.Hart.{Hart}
 use Rattle.hart_steps.specs.Asked.{Asks}
 use Rattle.hart_steps.specs.Harts.{turn, leaves}
 use Rattle.hart_steps.specs.Stripes.{stripe_value}
-use Rattle.placed_detector.specs.Instructions.{Beside, HearsEvents, MakesInstruction}
+use Rattle.placed_detector.specs.Instructions.{HearsEvents, MakesInstruction}
 use Rattle.hart_turns.specs.Hearing.{at_rest}
-use Rattle.hart_turns.specs.Places.{IsPlace, SameBare}
+use Rattle.hart_turns.specs.Places.{IsPlace}
 use Rattle.hart_turns.specs.Instructions.{loads_of, given_after_all, AreGivenAs, HearsAll}
 use Rattle.hart_turns.specs.Serves.{UsesStripe, ServedAt, ServedIn}
 use Rattle.hart_turns.specs.Makes.{hand_at, MakesAtStripe}
 use Rattle.hart_turns.proofs.Serving.{asks_stripe}
-
--- the object is served as a stripe of so many slots
-pub served_place : (file : List ℕ) (lay : Layout) (limits : Limits) (k t : ℕ) (r : Request) (h left : Hart) (place served : Option Object) (es : List Event) →
-    lay.limits ≡ limits → IsSoundSlot lay k place → ServedIn file k t r h left place served es → IsPlace limits k served
-served_place file lay limits k t r h left (Some (Stripe s)) (Some (Stripe s')) es same sound is =
-    ap (λ (x : SyncObjects). x.slots) is.sync_is ∙ (sound.2 ∙ ap (λ (l : Limits). l.slots) same)
-served_place file lay limits k t r h left None served es same sound is = absurd is
-served_place file lay limits k t r h left (Some (Desk d)) served es same sound is = absurd is
-served_place file lay limits k t r h left (Some (Stripe s)) None es same sound is = absurd is
-served_place file lay limits k t r h left (Some (Stripe s)) (Some (Desk d)) es same sound is = absurd is
 
 -- the part of the bare machine that a stripe has
 part_is : (file : List ℕ) (k : ℕ) (s : Box Stripes) → k < 64 → part_in file k (Stripe s) ≡ stripe_value file k s.value.words s.value.reserved

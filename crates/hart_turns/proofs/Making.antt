@@ -5,7 +5,6 @@ use Rattle.run_record.specs.declared.entry.Label.{Label}
 use Rattle.run_record.specs.declared.event.Event.{Event}
 use Rattle.run_record.specs.declared.event.Event.TheVariants as events
 use Rattle.run_record.specs.declared.limits.Limits.{Limits}
-use Rattle.bare_machine.specs.declared.thread.Thread.{Thread}
 use Rattle.bare_machine.specs.declared.request.Request.{Request}
 use Rattle.bare_machine.specs.declared.request.Request.TheVariants as kinds
 use Rattle.bare_machine.specs.Asked.{asked}
@@ -20,7 +19,6 @@ use Rattle.watched_turns.specs.Checking.{Loads}
 use Rattle.hart_steps.specs.declared.hart.Hart.{Hart}
 use Rattle.hart_steps.specs.Asked.{Asks, IsAlone}
 use Rattle.hart_steps.specs.Harts.{turn, leaves}
-use Rattle.placed_detector.specs.Standing.{Held}
 use Rattle.placed_detector.specs.Instructions.{Beside, HearsEvent, HearsEvents}
 use Rattle.hart_turns.specs.Places.{SameBare}
 use Rattle.hart_turns.specs.Instructions.{loads_of, HearsAll}

@@ -1,7 +1,7 @@
 -- What a request uses, and the turn in which it is served at its stripe.
-use Rattle.std.proofs.Common.{◌≡◌, ◌<◌, ℕ, Option, Some, None, List, length, slice_index, refl, ap, sym, subst, ◌∙◌, arith}
+use Rattle.std.proofs.Common.{◌≡◌, ◌<◌, ℕ, Some, None, List, length, slice_index, ap, sym, subst, ◌∙◌}
 use Rattle.std.specs.Prelude.{Result, Ok, Err, OnOk}
-use Rattle.elf_image.specs.File.{image_of, granule_of, granules_of}
+use Rattle.elf_image.specs.File.{image_of, granules_of}
 use Rattle.run_record.specs.declared.event.Event.{Event}
 use Rattle.run_record.specs.declared.limits.Limits.{Limits}
 use Rattle.rv_exec.specs.Registers.{Registers}
@@ -9,20 +9,18 @@ use Rattle.bare_machine.specs.declared.thread.Thread.{Thread}
 use Rattle.bare_machine.specs.declared.request.Request.{Request}
 use Rattle.bare_machine.specs.declared.request.Request.TheVariants as kinds
 use Rattle.bare_machine.specs.Asked.{asked, IsWithin}
-use Rattle.bare_machine.specs.Memory.{stripe}
 use Rattle.bare_machine.specs.Requests as requests
 use Rattle.bare_machine.proofs.Granules.{AtGranule, request_at_granule}
 use Rattle.guest_memory.specs.declared.reservations.Reservation.{Reservation}
-use Rattle.place_turns.specs.Places.{Value, IsAt, stripe_at}
+use Rattle.place_turns.specs.Places.{stripe_at}
 use Rattle.place_turns.proofs.Serving.{granule_stripe}
 use Rattle.shared_table.specs.Layouts.{SharedTable, IsTableOf}
-use Rattle.shared_table.specs.declared.object.Stripe.{Stripe}
 use Rattle.hart_steps.specs.declared.hart.Hart.{Hart}
 use Rattle.hart_steps.specs.Asked.{Asks, IsAlone, UsesGranule, granule_in}
 use Rattle.hart_steps.specs.Harts.{turn, leaves}
 use Rattle.hart_steps.specs.Stripes.{IsIndexOf, stripe_value}
 use Rattle.hart_steps.proofs.StripeLemmas as stripes
-use Rattle.hart_turns.specs.Serves.{UsesStripe, granule_used, HasAsked, ServedAt}
+use Rattle.hart_turns.specs.Serves.{UsesStripe, granule_used, HasAsked}
 
 -- ---- what a request uses
 

@@ -1,5 +1,5 @@
 -- The events of an instruction, one after another at one place.
-use Rattle.std.specs.Prelude.{◌≡◌, ◌+◌, ℕ, zero, suc, false, List, [], ◌∷◌, ◌++◌, flat_map, get_or, Option, None}
+use Rattle.std.specs.Prelude.{◌≡◌, ℕ, zero, suc, false, List, [], ◌∷◌, ◌++◌, flat_map, get_or, Option, None}
 use Rattle.run_record.specs.declared.entry.Check.{Check}
 use Rattle.run_record.specs.declared.entry.Label.{Label}
 use Rattle.run_record.specs.declared.event.Event.{Event}

@@ -6,7 +6,6 @@ use Rattle.run_record.specs.declared.event.Event.{Event}
 use Rattle.run_record.specs.declared.limits.Limits.{Limits}
 use Rattle.bare_machine.specs.declared.request.Request.{Request}
 use Rattle.bare_machine.specs.declared.request.Request.TheVariants as kinds
-use Rattle.bare_machine.specs.Step.{desk}
 use Rattle.race_core.specs.Watched.{Watched}
 use Rattle.shared_table.specs.declared.object.Object.{Object}
 use Rattle.shared_table.specs.declared.view.Layout.{Layout}

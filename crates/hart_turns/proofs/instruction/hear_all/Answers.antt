@@ -1,4 +1,4 @@
-use Rattle.std.proofs.Common.{◌≡◌, ◌+◌, arith, subst}
+use Rattle.std.proofs.Common.{arith, subst}
 use Rattle.hart_turns.specs.Hearing.{IsHeard}
 use Rattle.hart_turns.proofs.AllEvents.{sofar_start, sofar_next, sofar_end}
 use Rattle.hart_turns.proofs.instruction.hear_all.Goals as goal

@@ -1,5 +1,5 @@
-use Rattle.std.proofs.Common.{◌≡◌, refl, sym, ◌∙◌}
-use Rattle.hart_turns.proofs.Serving.{IsGranuleAt, granule_found, word_within, turned_granule, on_ok}
+use Rattle.std.proofs.Common.{refl, sym}
+use Rattle.hart_turns.proofs.Serving.{granule_found, word_within, turned_granule, on_ok}
 use Rattle.hart_turns.proofs.serve.serve_at.Goals as goal
 
 pub serve_at_stripe-requires-clause-index : goal.serve_at_stripe-requires-clause-index
