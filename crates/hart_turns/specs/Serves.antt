@@ -1,5 +1,5 @@
 -- A request that is served at a stripe.
-use Rattle.std.specs.Prelude.{◌≡◌, ℕ, List, Option, Some, None, length}
+use Rattle.std.specs.Prelude.{◌≡◌, ◌+◌, ℕ, List, Option, Some, None, length}
 use Rattle.run_record.specs.declared.event.Event.{Event}
 use Rattle.bare_machine.specs.declared.request.Request.{Request}
 use Rattle.bare_machine.specs.declared.request.Request.TheVariants as kinds
