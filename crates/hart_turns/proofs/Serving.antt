@@ -1,6 +1,6 @@
 -- What a request uses, and the turn in which it is served at its stripe.
-use Rattle.std.proofs.Common.{◌≡◌, ◌<◌, ℕ, Some, None, List, length, slice_index, ap, sym, subst, ◌∙◌}
-use Rattle.std.specs.Prelude.{Result, Ok, Err, OnOk}
+use Rattle.std.proofs.Common.{◌≡◌, ◌<◌, ℕ, Some, None, List, length, slice_index, ap, sym, subst, ◌∙◌, Bool, Option}
+use Rattle.std.specs.Prelude.{count_by, Result, Ok, Err, OnOk}
 use Rattle.elf_image.specs.File.{image_of, granules_of}
 use Rattle.run_record.specs.declared.event.Event.{Event}
 use Rattle.run_record.specs.declared.limits.Limits.{Limits}
@@ -16,10 +16,15 @@ use Rattle.place_turns.specs.Places.{stripe_at}
 use Rattle.place_turns.proofs.Serving.{granule_stripe}
 use Rattle.shared_table.specs.Layouts.{SharedTable, IsTableOf}
 use Rattle.hart_steps.specs.declared.hart.Hart.{Hart}
-use Rattle.hart_steps.specs.Asked.{Asks, IsAlone, UsesGranule, granule_in}
+use Rattle.hart_steps.specs.Asked.{Asks, IsAlone, UsesGranule, granule_in, UsesDesk}
 use Rattle.hart_steps.specs.Harts.{turn, leaves}
 use Rattle.hart_steps.specs.Stripes.{IsIndexOf, stripe_value}
 use Rattle.hart_steps.proofs.StripeLemmas as stripes
+use Rattle.hart_steps.specs.Desks.{IsJoinedOf, IsToldOf, desk_value, lives_after}
+use Rattle.machine_desk.specs.declared.MachineDesk.{MachineDesk}
+use Rattle.machine_desk.specs.Desks.{is_full}
+use Rattle.shared_table.specs.declared.object.DeskState.{DeskState}
+use Rattle.slot_desk.specs.Desks.{lives_of, live_of}
 use Rattle.hart_turns.specs.Serves.{UsesStripe, granule_used, HasAsked}
 
 -- ---- what a request uses
@@ -116,3 +121,30 @@ granule_found file limits table k t h r words g index ok is below long uses asks
 pub on_ok : {E : Type 0} (P Q : Type 0) (r : Result (Unit {0}) E) → (P → Q) → OnOk r P → OnOk r Q
 on_ok P Q (Ok u) f p = f p
 on_ok P Q (Err e) f p = tt
+
+-- ---- the desk
+
+desk_kept : (file : List ℕ) (t : ℕ) (found h : Hart) (r : Request) → UsesDesk r → Asks file t found h r → h.thread ≡ found.thread
+desk_kept file t found h (kinds.Put word count) u a = a.kept
+desk_kept file t found h (kinds.Create pc argument stack) u a = a.kept
+desk_kept file t found h (kinds.Join of) u a = a.kept
+desk_kept file t found h (kinds.Stop end) u a = a.kept
+desk_kept file t found h _ u a = absurd u
+
+-- a thread that asked for the desk is as it was
+pub desk_found : (file : List ℕ) (t : ℕ) (found h : Hart) (r : Request) → UsesDesk r → Asks file t found h r → h ≡ found
+desk_found file t found h r u a = a.hart ∙ ap (λ (x : Thread). record found { thread = record found.thread { regs = x.regs } }) (desk_kept file t found h r u a)
+
+pub turned_desk : (file : List ℕ) (harts t : ℕ) (r : Request) (h left : Hart) (d : DeskState) (m : MachineDesk) (living : ℕ) (joined : Option Bool) (es : List Event) →
+    UsesDesk r → living ≡ live_of d.desk → living ≡ count_by (λ (b : Bool). b) (lives_of d.desk) → IsJoinedOf r (lives_of d.desk) joined →
+    ((lives : List Bool) → asked h.thread.regs r ≡ requests.request file t h.thread → IsToldOf r lives living joined →
+    turn file harts t h (desk_value d.machine lives) ≡ leaves left (desk_value m (lives_after t (is_full harts living d.machine.made) r lives)) es) →
+    (found : Hart) → Asks file t found h r →
+    turn file harts t found (desk_value d.machine (lives_of d.desk))
+    ≡ leaves left (desk_value m (lives_after t (is_full harts (live_of d.desk) d.machine.made) r (lives_of d.desk))) es
+turned_desk file harts t r h left d m living joined es uses alive counted told served found asks =
+    let same = desk_found file t found h r uses asks in
+    let lives = lives_of d.desk in
+    subst (λ (n : ℕ). turn file harts t found (desk_value d.machine lives) ≡ leaves left (desk_value m (lives_after t (is_full harts n d.machine.made) r lives)) es) alive
+    (subst (λ (x : Hart). turn file harts t x (desk_value d.machine lives) ≡ leaves left (desk_value m (lives_after t (is_full harts living d.machine.made) r lives)) es) same
+    (served lives (asks.value ∙ ap (λ (x : Hart). requests.request file t x.thread) (sym same)) (record { count = counted; joined_is = told })))

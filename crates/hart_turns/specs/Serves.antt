@@ -1,5 +1,5 @@
 -- A request that is served at a stripe.
-use Rattle.std.specs.Prelude.{◌≡◌, ◌+◌, ℕ, List, Option, Some, None, length}
+use Rattle.std.specs.Prelude.{◌≡◌, ◌≤◌, ℕ, List, Option, Some, None, length}
 use Rattle.run_record.specs.declared.event.Event.{Event}
 use Rattle.bare_machine.specs.declared.request.Request.{Request}
 use Rattle.bare_machine.specs.declared.request.Request.TheVariants as kinds
@@ -7,6 +7,10 @@ use Rattle.bare_machine.specs.Memory as memory
 use Rattle.shared_table.specs.declared.object.Object.{Object}
 use Rattle.shared_table.specs.declared.object.Object.TheVariants.{Stripe as InStripe}
 use Rattle.shared_table.specs.declared.object.Stripe.{Stripe}
+use Rattle.shared_table.specs.declared.object.DeskState.{DeskState}
+use Rattle.slot_desk.specs.Desks.{lives_of, live_of}
+use Rattle.machine_desk.specs.Desks.{is_full}
+use Rattle.hart_steps.specs.Desks.{desk_value, lives_after}
 use Rattle.hart_steps.specs.declared.hart.Hart.{Hart}
 use Rattle.hart_steps.specs.Asked.{Asks}
 use Rattle.hart_steps.specs.Harts.{turn, leaves}
@@ -43,3 +47,13 @@ pub record ServedAt (file : List ℕ) (k t : ℕ) (r : Request) (asked left : Ha
 abbrev pub ServedIn : List ℕ → ℕ → ℕ → Request → Hart → Hart → Option Object → Option Object → List Event → Type 0
 ServedIn file k t r asked left (Some (InStripe s)) (Some (InStripe s')) es = ServedAt file k t r asked left s.value s'.value es
 ServedIn file k t r asked left _ _ es = ⊥
+
+-- Thread t's request was served at the desk, where so many threads may live at once: it was d and is d', and its slots are as they were.
+pub record ServedAtDesk (harts t : ℕ) (r : Request) (asked left : Hart) (d d' : DeskState) (es : List Event) : Type 0 where
+  pub turned :
+      (file : List ℕ) (found : Hart) → Asks file t found asked r →
+      turn file harts t found (desk_value d.machine (lives_of d.desk))
+      ≡ leaves left (desk_value d'.machine (lives_after t (is_full harts (live_of d.desk) d.machine.made) r (lives_of d.desk))) es
+  pub few : length d'.machine.made ≤ 1024
+  pub desk_is : d'.desk ≡ d.desk
+  pub last_is : d'.last ≡ d.last

@@ -10,6 +10,7 @@
 #![tactic(auto)]
 
 mod check;
+mod desk;
 mod events;
 mod hear;
 mod instruction;
@@ -18,6 +19,7 @@ mod serve;
 mod slots;
 
 pub use check::check_access;
+pub use desk::serve_at_desk;
 pub use events::hear_event;
 pub use hear::Hearing;
 pub use instruction::hear_all;
