@@ -1,5 +1,5 @@
 -- The parts of an access, checked one after another at the cells of the table.
-use Rattle.std.proofs.Common.{◌≡◌, ◌<◌, ℕ, ◌%◌, Option, Some, None, List, [], ◌∷◌, ◌++◌, length, get_or, append-nil, append_assoc, length-append, refl, ap, ap₂, sym, subst, ◌∙◌, arith}
+use Rattle.std.proofs.Common.{◌≡◌, ◌<◌, ℕ, ◌%◌, Option, Some, None, List, [], ◌∷◌, ◌++◌, length, get_or, append-nil, append_assoc, length-append, refl, ap, sym, subst, ◌∙◌, arith}
 use Rattle.std.specs.Prelude.{All, IsSome, IsSomeAnd, Ok}
 use Rattle.std.specs.List.{AllZip}
 use Rattle.std.proofs.lemmas.Grind.{flat_map-append}
@@ -10,7 +10,6 @@ use Rattle.run_record.specs.declared.event.Event.{Event}
 use Rattle.elf_image.specs.File.{image_of, granule_of, granules_of}
 use Rattle.run_laws.specs.Accesses.{Access, access_of, Part, parts_of}
 use Rattle.run_laws.specs.Checks.{StoresRightly}
-use Rattle.turn_orders.specs.Lists.{Each}
 use Rattle.turn_orders.proofs.Members.{each_append}
 use Rattle.race_core.specs.Watched.{Watched}
 use Rattle.race_core.specs.Walk.{pair_of, planned}

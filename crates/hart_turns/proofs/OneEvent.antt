@@ -1,6 +1,6 @@
 -- What was told of an event, as the laws of workers have it.
 use Rattle.std.specs.Global.{Box}
-use Rattle.std.proofs.Common.{◌≡◌, ◌<◌, ℕ, zero, suc, max, Option, Some, None, List, [], ◌∷◌, ◌++◌, length, replicate, append-nil, refl, ap, ap₂, sym, subst, ◌∙◌, arith}
+use Rattle.std.proofs.Common.{◌≡◌, ℕ, max, Option, Some, None, List, [], ◌∷◌, length, replicate, append-nil, refl, ap, ap₂, sym, subst, ◌∙◌, arith}
 use Rattle.std.specs.Prelude.{IfOk, Result, Ok, Err}
 use Rattle.run_record.specs.declared.no_memory.NoMemory.{NoMemory}
 use Rattle.run_record.specs.declared.entry.Check.{Check}
@@ -14,8 +14,7 @@ use Rattle.slot_desk.specs.Steps.{joined_told}
 use Rattle.vector_clock.specs.Clocks.{joined}
 use Rattle.sync_slab.specs.Objects.{SyncObjects}
 use Rattle.race_core.specs.Watched.{Watched, with_clock}
-use Rattle.thread_events.specs.Heard.{watcher_after}
-use Rattle.placed_detector.specs.Instructions.{Beside, HearsEvent, told_in, given_after}
+use Rattle.placed_detector.specs.Instructions.{HearsEvent, told_in, given_after}
 use Rattle.shared_table.specs.declared.object.Object.{Object}
 use Rattle.shared_table.specs.declared.object.Object.TheVariants.{Stripe, Desk}
 use Rattle.hart_events.specs.Events.{IsAlone, IsOfChannel, IsOfDesk}
@@ -302,7 +301,7 @@ heard_map P Q (Err e) f h = tt
 
 -- ---- events that leave the place as it is
 
-same_bare : (place : Option Object) → SameBare place place
+pub same_bare : (place : Option Object) → SameBare place place
 same_bare None = tt
 same_bare (Some (Stripe s)) = (refl, refl, refl)
 same_bare (Some (Desk d)) = (refl, refl)

@@ -1,12 +1,11 @@
 -- What an event makes of a watcher and of objects doesn't depend on the room that these have.
-use Rattle.std.proofs.Common.{◌≡◌, ℕ, Bool, true, false, cond, Option, Some, None, List, refl, ap, sym, subst, ◌∙◌, ◌==◌}
+use Rattle.std.proofs.Common.{◌≡◌, ℕ, Bool, true, false, cond, Option, Some, None, List, refl, ap, subst, ◌∙◌, ◌==◌}
 use Rattle.run_record.specs.declared.entry.Label.{Label}
 use Rattle.run_record.specs.declared.event.Event.{Event}
 use Rattle.run_record.specs.declared.event.Event.TheVariants as events
-use Rattle.run_record.specs.declared.event.Part.{Part}
 use Rattle.slot_desk.specs.Desks.{DeskContents}
-use Rattle.sync_slab.specs.Objects.{SyncObject, SyncObjects, AreObjects, Puts, Ends, Removes}
-use Rattle.race_core.specs.Watched.{Watched, next_label, raised_to, with_room, unlabelled}
+use Rattle.sync_slab.specs.Objects.{SyncObjects, AreObjects}
+use Rattle.race_core.specs.Watched.{Watched, next_label, raised_to, with_room}
 use Rattle.thread_events.specs.Heard.{raised_or_lost, raised_or_lost_to, watcher_after, ObjectsAfter, lost_label}
 use Rattle.run_laws.specs.Labels.{raises}
 use Rattle.hart_events.specs.Events.{lost_after}

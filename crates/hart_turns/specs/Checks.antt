@@ -1,13 +1,12 @@
 -- The checks of an access at the cells of the table.
 use Rattle.std.specs.List.{AllZip}
 use Rattle.race_core.specs.Walk.{planned}
-use Rattle.std.specs.Prelude.{◌≡◌, ◌<◌, ◌%◌, ℕ, IsSomeAnd, List, ◌++◌, length, Option, Some, option_map}
+use Rattle.std.specs.Prelude.{◌≡◌, ◌<◌, ◌%◌, ℕ, IsSomeAnd, List, ◌++◌, length, Some}
 use Rattle.run_record.specs.declared.entry.Check.{Check}
 use Rattle.run_record.specs.declared.entry.Label.{Label}
 use Rattle.run_record.specs.declared.event.Event.{Event}
 use Rattle.run_record.specs.declared.limits.Limits.{Limits}
-use Rattle.run_laws.specs.Accesses.{Access, access_of, Part}
-use Rattle.run_laws.specs.Words.{word_of, cell_for}
+use Rattle.run_laws.specs.Accesses.{Access, access_of}
 use Rattle.run_laws.specs.Checks.{StoresRightly}
 use Rattle.turn_orders.specs.Lists.{Each}
 use Rattle.race_core.specs.Watched.{Watched}

@@ -5,7 +5,7 @@ use Rattle.run_record.specs.declared.limits.Limits.{Limits}
 use Rattle.place_turns.specs.Places as machine
 use Rattle.place_turns.specs.Turns.{arrived}
 use Rattle.slot_desk.specs.Desks.{DeskContents, thread_of, held_of, lives_of}
-use Rattle.slot_desk.specs.Steps.{joined_told, after_detach}
+use Rattle.slot_desk.specs.Steps.{joined_told}
 use Rattle.race_core.specs.Watched.{Watched}
 use Rattle.hart_steps.specs.declared.hart.Hart.{Hart}
 use Rattle.hart_steps.specs.Harts.{absent, local_of}

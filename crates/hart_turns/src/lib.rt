@@ -10,11 +10,18 @@
 #![tactic(auto)]
 
 mod check;
+mod desk;
 mod events;
 mod hear;
+mod instruction;
+mod make;
+mod serve;
 mod slots;
 
 pub use check::check_access;
+pub use desk::serve_at_desk;
 pub use events::hear_event;
 pub use hear::Hearing;
+pub use instruction::hear_all;
+pub use make::{make_alone, make_at_stripe};
 pub use slots::{ThreadState, leave_slot, take_slot};

@@ -1,7 +1,7 @@
-use Rattle.std.proofs.Common.{◌≡◌, ◌<◌, ℕ, ◌%◌, Some, [], List, ◌∷◌, ap, sym, subst, ◌∙◌, arith}
+use Rattle.std.proofs.Common.{◌<◌, ℕ, ◌%◌, List, ◌∷◌, ap, subst, ◌∙◌, arith}
 use Rattle.elf_image.proofs.MemoryLaws.{few_granules}
 use Rattle.run_record.specs.declared.entry.Label.{Label}
-use Rattle.run_laws.specs.Accesses.{Access, access_of}
+use Rattle.run_laws.specs.Accesses.{access_of}
 use Rattle.race_core.specs.Parts.{left_of}
 use Rattle.trace_parts.specs.Held.{HeldTrace}
 use Rattle.hart_turns.specs.Checks.{Half}

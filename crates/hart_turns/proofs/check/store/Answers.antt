@@ -1,4 +1,4 @@
-use Rattle.std.proofs.Common.{◌≡◌, ◌<◌, ℕ, Some, arith}
+use Rattle.std.proofs.Common.{arith}
 use Rattle.hart_turns.proofs.check.store.Goals as goal
 
 pub overflow_add-granule : goal.overflow_add-granule

@@ -1,8 +1,6 @@
-use Rattle.std.proofs.Common.{◌≡◌, ℕ, Option, Some, List, refl, ap, sym, subst, ◌∙◌}
-use Rattle.shared_table.specs.declared.object.Object.{Object}
+use Rattle.std.proofs.Common.{Some, ap, subst, ◌∙◌}
 use Rattle.shared_table.specs.declared.object.Stripe.{Stripe}
 use Rattle.hart_turns.specs.Hearing.{HearsAtStripe}
-use Rattle.hart_turns.specs.Places.{IsPlace, HearsOne}
 use Rattle.hart_turns.proofs.OneEvent.{heard_map, stripe_one}
 use Rattle.hart_turns.proofs.events.hear_channel.Goals as goal
 

@@ -1,8 +1,7 @@
-use Rattle.std.proofs.Common.{◌≡◌, ℕ, Option, Some, List, refl, ap, sym, subst, ◌∙◌}
-use Rattle.shared_table.specs.declared.object.Object.{Object}
+use Rattle.std.proofs.Common.{Some, ap, subst, ◌∙◌}
 use Rattle.shared_table.specs.declared.object.DeskState.{DeskState}
 use Rattle.hart_turns.specs.Hearing.{HearsAtDesk}
-use Rattle.hart_turns.specs.Places.{IsPlace, HearsOne}
+use Rattle.hart_turns.specs.Places.{IsPlace}
 use Rattle.hart_turns.proofs.OneEvent.{heard_map, desk_one}
 use Rattle.hart_turns.proofs.events.hear_of_desk.Goals as goal
 

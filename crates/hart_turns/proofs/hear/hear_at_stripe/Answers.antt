@@ -1,4 +1,4 @@
-use Rattle.std.proofs.Common.{refl, ap, ◌∙◌, ◌≡◌, Bool, true, false}
+use Rattle.std.proofs.Common.{ap, ◌∙◌}
 use Rattle.sync_slab.specs.Objects.{SyncObjects}
 use Rattle.hart_turns.proofs.Resting.{heard_roomed, objects_roomed, lost_roomed, slots_after}
 use Rattle.hart_turns.proofs.hear.hear_at_stripe.Goals as goal

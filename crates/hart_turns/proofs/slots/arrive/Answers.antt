@@ -1,4 +1,4 @@
-use Rattle.std.proofs.Common.{Option, Bool, List, [], ap, sym, ◌∙◌}
+use Rattle.std.proofs.Common.{Option, [], ap, sym, ◌∙◌}
 use Rattle.place_turns.specs.Turns.{Turned, arrived}
 use Rattle.hart_steps.specs.declared.hart.Hart.{Hart}
 use Rattle.hart_steps.specs.Desks.{desk_with}

@@ -1,0 +1,31 @@
+use Rattle.std.proofs.Common.{arith, subst}
+use Rattle.hart_turns.specs.Hearing.{IsHeard}
+use Rattle.hart_turns.proofs.AllEvents.{sofar_start, sofar_next, sofar_end}
+use Rattle.hart_turns.proofs.instruction.hear_all.Goals as goal
+
+pub loop-event-init : goal.loop-event-init
+loop-event-init c = (
+  c.requires.own,
+  c.requires.place,
+  omega arith,
+  sofar_start c.args.image.now c.args.limits.now c.args.number c.args.tid c.args.given.now c.args.base c.args.events.now c.args.watcher.now c.args.place.now
+      c.args.checks.now c.args.seat.now.me,
+)
+
+pub loop-event-preserved : goal.loop-event-preserved
+loop-event-preserved c =
+    let i = c.loop-event.invariant in (
+      c.in_ok-heard.ensures.own,
+      c.in_ok-heard.ensures.place,
+      let at = i.2 in omega arith,
+      sofar_next c.args.image.now c.args.limits.now c.args.number c.args.tid c.args.given.now c.args.base c.loop-event.event-index c.args.events.now _ c.loop-event.at
+          c.args.watcher.now c.loop-event.watcher c.hear_event.new.watcher c.args.place.now c.loop-event.place c.hear_event.new.place c.args.checks.now
+          c.loop-event.checks c.hear_event.new.checks c.args.seat.now.me c.loop-event.seat.me c.hear_event.new.seat.me c.loop-event.spent c.in-Heard.label i.3
+          c.loop-event-test.true i.2 (subst (IsHeard _) c.in-Heard.is c.in_ok-heard.ensures.heard),
+    )
+
+pub returns-clause-heard : goal.returns-clause-heard
+returns-clause-heard c =
+    sofar_end c.args.image.now c.args.limits.now c.args.number c.args.tid c.args.given.now c.args.base c.loop-event.event-index c.args.events.now c.args.watcher.now
+    c.loop-event.watcher c.args.place.now c.loop-event.place c.args.checks.now c.loop-event.checks c.args.seat.now.me c.loop-event.seat.me c.loop-event.spent
+    c.loop-event.invariant.3 (let z = c.loop-event-test.false in omega arith)

@@ -1,0 +1,13 @@
+use Rattle.std.proofs.Common.{◌≡◌, ◌+◌}
+use Rattle.shared_table.specs.Seats.{IsSeatOf}
+use Rattle.hart_turns.specs.Places.{IsPlace}
+use Rattle.hart_turns.proofs.AllEvents.{Sofar}
+use Rattle.hart_turns.proofs.instruction.hear_all.Given as goal
+
+abbrev pub invariant-loop-event : goal.invariant-loop-event
+invariant-loop-event l =
+    IsSeatOf l.shared l.seat
+    × IsPlace l.limits l.number l.place
+    × (l.at ≡ l.base + l.event-index)
+    × Sofar l.image l.limits l.number l.tid l.given l.base l.event-index l.events l.initial.watcher l.watcher l.initial.place l.place
+    l.initial.checks l.checks l.initial.seat.me l.seat.me l.spent
