@@ -23,6 +23,9 @@ use run_record::{CheckList, Limits, NoMemory};
 use shared_table::{Object, Shared, SharedSeat};
 use vector_clock::Clock;
 
+// A number that no object has.
+const NOWHERE: u32 = 65;
+
 // Hears the events that the thread's instruction told, if its entry has room for them.
 fn hear_told(
     shared: &Shared,
@@ -84,20 +87,10 @@ pub fn make_alone(
         checks.old checks.new seat.old.me seat.new.me)) }
 {
     hart.serve_alone(request, events);
-    let mut nothing = None;
+    let mut place = None;
+    let place = &mut place;
     hear_told(
-        shared,
-        seat,
-        image,
-        limits,
-        tid,
-        watcher,
-        given,
-        &mut nothing,
-        65,
-        events,
-        base,
-        checks,
+        shared, seat, image, limits, tid, watcher, given, place, NOWHERE, events, base, checks,
     )
 }
 
