@@ -105,7 +105,7 @@ module _ (file : List ℕ) (limits : Limits) (ok : image_of file ≡ Ok file) wh
         (era_now limits.epochs h) t k d.local_found.state d.local_left.state v d.left.state d.told.entry d.told.acts)
         (ap (λ (v : Stamped Held). v.state) (sym there)) made.deed)
 
-    one : IsFollowed file limits (plain c) (plain m) h t k d.local_left.state d.left.state d.told.entry d.told.acts
+    pub one : IsFollowed file limits (plain c) (plain m) h t k d.local_left.state d.left.state d.told.entry d.told.acts
     one = followed file limits ok (plain c) (plain m) w h s.standing t d.local_left.state d.left.state d.told.entry k d.told.acts deed_here
 
     -- both draw the same stamp
@@ -143,7 +143,7 @@ module _ (file : List ℕ) (limits : Limits) (ok : image_of file ≡ Ok file) wh
         go (inr ne) = ap (λ (v : Stamped Value). v.last) (but_else m.value k j (turn t d.told.acts (m.local t) (m.value k)).value ne) ∙
             (s.values j ∙ ap (λ (v : Stamped Held). v.last) (sym (but_else c.value k j d.left ne)))
 
-    stands_next : StandsStamped file limits (left_by c d) (next turn m (single t k d.told.acts)) one.world (h ++ entry_moments 0 d.told.entry)
+    pub stands_next : StandsStamped file limits (left_by c d) (next turn m (single t k d.told.acts)) one.world (h ++ entry_moments 0 d.told.entry)
     stands_next = record {
       standing = subst (λ (z : State Hand Held). Standing file limits z (plain (next turn m (single t k d.told.acts))) one.world
           (h ++ entry_moments 0 d.told.entry)) (sym (plain_left c d))

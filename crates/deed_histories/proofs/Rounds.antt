@@ -46,7 +46,7 @@ pub record Goes (file : List ℕ) (limits : Limits) (x : StampedDeed) (d : HandD
   pub thread : x.call.thread ≡ d.call.thread
   pub stamp : x.local_left.last ≡ d.local_left.last
 
-goes_all : (file : List ℕ) (limits : Limits) (era : ℕ) (ds : List HandDeed) (m : State (Stamped Local) (Stamped Value)) → AllZip
+pub goes_all : (file : List ℕ) (limits : Limits) (era : ℕ) (ds : List HandDeed) (m : State (Stamped Local) (Stamped Value)) → AllZip
     (IsEntryOf file limits.harts limits.epochs) (deeds_of (stamped_turn file limits) acts_of m ds) (entries_of ds) → Each (IsHandDeed file limits era) ds →
     AllZip (Goes file limits) (deeds_of (stamped_turn file limits) acts_of m ds) ds
 goes_all file limits era [] m z made = tt
@@ -56,7 +56,7 @@ goes_all file limits era (d ∷ ds) m z made = (
 )
 
 module _ (file : List ℕ) (limits : Limits) where
-  entries_go : (xs : List StampedDeed) (ds : List HandDeed) → AllZip (Goes file limits) xs ds → AllZip (IsEntryOf file limits.harts limits.epochs) xs
+  pub entries_go : (xs : List StampedDeed) (ds : List HandDeed) → AllZip (Goes file limits) xs ds → AllZip (IsEntryOf file limits.harts limits.epochs) xs
       (entries_of ds)
   entries_go [] [] z = tt
   entries_go [] (d ∷ ds) z = absurd z
@@ -78,26 +78,26 @@ module _ (file : List ℕ) (limits : Limits) where
   each_go x d (y ∷ ys) [] a z e = absurd z
   each_go x d (y ∷ ys) (v ∷ es) a z e = (before_go x y d v a z.0 e.0, each_go x d ys es a z.1 e.1)
 
-  sorted_go : (xs : List StampedDeed) (ds : List HandDeed) → AllZip (Goes file limits) xs ds → IsSorted hand_stamp ds → IsSorted watched_stamp xs
+  pub sorted_go : (xs : List StampedDeed) (ds : List HandDeed) → AllZip (Goes file limits) xs ds → IsSorted hand_stamp ds → IsSorted watched_stamp xs
   sorted_go [] [] z s = tt
   sorted_go [] (d ∷ ds) z s = absurd z
   sorted_go (x ∷ xs) [] z s = absurd z
   sorted_go (x ∷ xs) (d ∷ ds) z s = (each_go x d xs ds z.0 z.1 s.0, sorted_go xs ds z.1 s.1)
 
-  greatest_go : (xs : List StampedDeed) (ds : List HandDeed) → AllZip (Goes file limits) xs ds → greatest watched_stamp xs ≡ greatest hand_stamp ds
+  pub greatest_go : (xs : List StampedDeed) (ds : List HandDeed) → AllZip (Goes file limits) xs ds → greatest watched_stamp xs ≡ greatest hand_stamp ds
   greatest_go [] [] z = refl
   greatest_go [] (d ∷ ds) z = absurd z
   greatest_go (x ∷ xs) [] z = absurd z
   greatest_go (x ∷ xs) (d ∷ ds) z = ap₂ max z.0.stamp (greatest_go xs ds z.1)
 
-  parts_go : (xs : List StampedDeed) (ds : List HandDeed) → AllZip (Goes file limits) xs ds → PartsEnd ds → told.PartsEnd xs (entries_of ds)
+  pub parts_go : (xs : List StampedDeed) (ds : List HandDeed) → AllZip (Goes file limits) xs ds → PartsEnd ds → told.PartsEnd xs (entries_of ds)
   parts_go [] [] z p = tt
   parts_go [] (d ∷ ds) z p = absurd z
   parts_go (x ∷ xs) [] z p = absurd z
   parts_go (x ∷ xs) (d ∷ ds) z p = ((λ some beyond. p.0 some (subst (λ (k : ℕ). desk < k) z.0.place beyond)), parts_go xs ds z.1 p.1)
 
 -- no era begins within entries
-era_entries : (g : ℕ) (h : List Moment) (es : List Entry) → era_now g (h ++ moments_of es) ≡ era_now g h
+pub era_entries : (g : ℕ) (h : List Moment) (es : List Entry) → era_now g (h ++ moments_of es) ≡ era_now g h
 era_entries g h [] = ap (era_now g) (append-nil h)
 era_entries g h (e ∷ es) = ap (era_now g) (sym (append_assoc h (entry_moments 0 e) (moments_of es))) ∙
     (era_entries g (h ++ entry_moments 0 e) es ∙ era_entry g h e)
@@ -117,13 +117,13 @@ module _ (file : List ℕ) (limits : Limits) (ok : image_of file ≡ Ok file) wh
 
   -- ---- between two rounds
 
-  record Between (c : Hands) (m : Watched) (stamp era : ℕ) (ends : Bool) : Type 0 where
-    world : World
-    history : List Moment
-    stands : StandsStamped file limits (between era stamp ends c) (watched.between limits.slots stamp ends m) world history
-    era_is : era_now limits.epochs history ≡ cond ends (era + 1) era
+  pub record Between (c : Hands) (m : Watched) (stamp era : ℕ) (ends : Bool) : Type 0 where
+    pub world : World
+    pub history : List Moment
+    pub stands : StandsStamped file limits (between era stamp ends c) (watched.between limits.slots stamp ends m) world history
+    pub era_is : era_now limits.epochs history ≡ cond ends (era + 1) era
 
-  between_stands : (c : Hands) (m : Watched) (w : World) (h : List Moment) (stamp era : ℕ) (ends : Bool) → StandsStamped file limits c m w h →
+  pub between_stands : (c : Hands) (m : Watched) (w : World) (h : List Moment) (stamp era : ℕ) (ends : Bool) → StandsStamped file limits c m w h →
       era_now limits.epochs h ≡ era → (ends ≡ true → (t : ℕ) → (c.local t).state.given ≡ None) → Between c m stamp era ends
   between_stands c m w h stamp era false s is none = record {
     world = w;

@@ -187,7 +187,7 @@ module _ (file : List ℕ) (limits : Limits) where
   ends_alone m p (d ∷ ds) h = ((λ l. let low = h.0 in absurd (omega (arith, l, low))), ends_alone m p ds h.1)
 
   -- along deeds stamps rise
-  rises : (era : ℕ) (l : Stamped Hand) (ds : List ObjectDeed) → LocalsFollow l ds →
+  pub rises : (era : ℕ) (l : Stamped Hand) (ds : List ObjectDeed) → LocalsFollow l ds →
       Each (λ (d : ObjectDeed). IsHandDeed file limits era (hand_deed file limits d)) ds → l.last ≤ (last_local l ds).last
   rises era l [] f h = omega arith
   rises era l (d ∷ ds) f h =
@@ -218,7 +218,7 @@ module _ (file : List ℕ) (limits : Limits) (lay : Layout) (round era : ℕ) (m
   own : Each AreOwn r.parts
   own = all_members AreOwn r.parts (λ p i. (part_is p i).mine)
 
-  begins : (p : Part) → In p r.parts → p.before ≡ m.local p.thread
+  pub begins : (p : Part) → In p r.parts → p.before ≡ m.local p.thread
   begins p i = at_member (λ (q : Part). q.before ≡ m.local q.thread) p r.parts h.before i
 
   log_is : (n : ℕ) (s : HasSeat r.first_seat r.parts n) → log_of n r.late ≡ s.part.log
@@ -317,7 +317,7 @@ module _ (file : List ℕ) (limits : Limits) (lay : Layout) (round era : ℕ) (m
   hands_of t =
       thread_hands file limits t (weave tag r.late ++ alone) ∙ ap (hand_deeds file limits) (thread_all tag lay m r.early r.late seat alone worked t)
 
-  part_of : (p : Part) → In p r.parts → deeds_of p.thread ≡ p.deeds ++ rest_of m p
+  pub part_of : (p : Part) → In p r.parts → deeds_of p.thread ≡ p.deeds ++ rest_of m p
   part_of p i = elim (part_cases m r.first_seat r.parts p.thread h.apart) [
     | inl q ↦
         deeds_with p.thread q

@@ -1,0 +1,15 @@
+pub mod Spans
+pub mod Deeds
+pub mod Lines
+pub mod Rounds
+pub mod Lists
+pub mod Parts
+pub mod Collecting
+pub mod Moved
+pub mod Last
+pub mod Histories
+pub mod Growing
+pub mod Made
+pub mod Sorting
+pub mod Sorted
+pub mod More

@@ -1,0 +1,3 @@
+pub mod Awaits
+pub mod Rounds
+pub mod Sorting
