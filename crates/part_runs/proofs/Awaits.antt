@@ -17,6 +17,8 @@ use Rattle.placed_detector.specs.Standing.{Hand}
 use Rattle.table_deeds.specs.Rounds.{last_stamp}
 use Rattle.hart_parts.specs.Rounds.{PartRound, table_round, ArePartRounds}
 use Rattle.whole_parts.proofs.Dues.{all_of_each}
+use Rattle.part_races.specs.Rounds.{AllAwait, era_after}
+use Rattle.part_races.proofs.Histories.{round_collects}
 use Rattle.part_runs.specs.Runs.{entries_of_rounds, AreRounds}
 use Rattle.part_runs.specs.Told.{AwaitRoundEnd}
 use Rattle.part_runs.specs.Next.{next_era}
@@ -94,3 +96,17 @@ round_awaits file limits lay past m rs r awaited all c =
     let z : 0 + length rs ≡ length rs = omega arith in
     await_end limits (entries_of_rounds rs) r.entries (length rs) (next_era 0 rs) awaited
     (subst (λ (n : ℕ). Each (IsIn n (next_era 0 rs)) r.entries) z (inside_at file limits lay rs r 0 0 0 m all.parts)) c
+
+era_alike : (era : ℕ) (rs : List PartRound) → era_after era rs ≡ next_era era rs
+era_alike era [] = refl
+era_alike era (x ∷ xs) = era_alike (cond x.ends (era + 1) era) xs
+
+-- so what all workers of a round told awaits its end
+pub told_awaits : (file : List ℕ) (limits : Limits) (lay : Layout) (past : Past) (m : State (Stamped Hand) Object) (rs : List PartRound) (r : PartRound)
+    (told : List (List Awaited)) (awaited : List Awaited) → AreRounds file limits lay past m (rs ++ r ∷ []) →
+    AllAwait file limits 0 (rs ++ r ∷ []) (told ++ awaited ∷ []) → AwaitRoundEnd limits (entries_of_rounds rs) r.entries awaited
+told_awaits file limits lay past m rs r told awaited all await =
+    round_awaits file limits lay past m rs r awaited all
+    (subst (λ (n : ℕ). let h = moments_in (length rs) n (entries_of_rounds rs ++ r.entries) in
+        Collects limits.epochs h (length (moments_in (length rs) n (entries_of_rounds rs))) (length h) awaited) (era_alike 0 rs)
+    (round_collects file limits lay m all.limits_are.watcher all.first all.accepted rs r told awaited all.parts await (length rs)))

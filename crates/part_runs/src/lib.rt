@@ -40,6 +40,7 @@ ghost use Rattle.cell_loads.specs.Pasts.{AreQuiet};
 ghost use Rattle.run_laws.specs.Rounds.{steps_in};
 ghost use Rattle.placed_detector.specs.Standing.{Hand};
 ghost use Rattle.hart_parts.specs.Rounds.{PartRound, table_round};
+ghost use Rattle.part_races.specs.Rounds.{AllAwait};
 ghost use Rattle.part_runs.specs.Next.{next_era, next_base, past_through, IsNextRound};
 ghost use Rattle.part_runs.specs.Runs.{entries_of_rounds, AreRoundLimits, AreRounds, AreAllRounds};
 ghost use Rattle.whole_parts.specs.Dues.{HasDesk, IsDueRound, AreDueRounds, state_after_rounds, remaining_after, era_of_last};
@@ -99,14 +100,17 @@ pub fn lawful_law()
 {}
 
 /// What is collected from where a round begins, with the eras that begin before it, up to its end awaits that end, also where the round
-/// has no entries.
+/// has no entries. So does what all workers of a round told of its races.
 pub fn awaits_law()
-    ensures { (file : List ℕ) (limits : Limits) (lay : Layout) (past : Past) (m : State (Stamped Hand) Object) (rs : List PartRound)
+    ensures collected { (file : List ℕ) (limits : Limits) (lay : Layout) (past : Past) (m : State (Stamped Hand) Object) (rs : List PartRound)
         (r : PartRound) (awaited : List Awaited) → AreRounds file limits lay past m (rs ++ r ∷ []) →
         let before = entries_of_rounds rs in
         let h = moments_in (length rs) (next_era 0 rs) (before ++ r.entries) in
         Collects limits.epochs h (length (moments_in (length rs) (next_era 0 rs) before)) (length h) awaited →
         AwaitRoundEnd limits before r.entries awaited }
+    ensures told { (file : List ℕ) (limits : Limits) (lay : Layout) (past : Past) (m : State (Stamped Hand) Object) (rs : List PartRound)
+        (r : PartRound) (told : List (List Awaited)) (awaited : List Awaited) → AreRounds file limits lay past m (rs ++ r ∷ []) →
+        AllAwait file limits 0 (rs ++ r ∷ []) (told ++ awaited ∷ []) → AwaitRoundEnd limits (entries_of_rounds rs) r.entries awaited }
 {}
 
 /// At the end of a round each access that awaits it has a word whose label is a thread's, and of the present era; and it can be sought
