@@ -56,7 +56,8 @@ last_then before era (x ∷ xs) r = last_then era (cond x.ends (era + 1) era) xs
 
 module _ (file : List ℕ) (limits : Limits) (lay : Layout) where
   parts_then : (rs : List PartRound) (r : PartRound) (round era base : ℕ) (m : State (Stamped Hand) Object) →
-      ArePartRounds file limits lay round era base m rs → r.base ≡ next_base base m rs → IsPartRound file limits lay (round + length rs) (era_after era rs) (state_after_rounds m rs) r →
+      ArePartRounds file limits lay round era base m rs → r.base ≡ next_base base m rs →
+      IsPartRound file limits lay (round + length rs) (era_after era rs) (state_after_rounds m rs) r →
       ArePartRounds file limits lay round era base m (rs ++ r ∷ [])
   parts_then [] r round era base m are base_is one =
       let z : round + 0 ≡ round = omega arith in
