@@ -17,9 +17,10 @@ use Rattle.placed_detector.specs.Standing.{Hand}
 use Rattle.table_deeds.specs.Rounds.{last_stamp}
 use Rattle.hart_parts.specs.Rounds.{PartRound, table_round, ArePartRounds}
 use Rattle.whole_parts.proofs.Dues.{all_of_each}
+use Rattle.part_races.specs.Rounds.{AllAwait, era_after}
+use Rattle.part_races.proofs.Histories.{round_collects}
 use Rattle.part_runs.specs.Runs.{entries_of_rounds, AreRounds}
 use Rattle.part_runs.specs.Told.{AwaitRoundEnd}
-use Rattle.part_runs.specs.Next.{next_era}
 use Rattle.part_runs.proofs.Owned.{in_round, cut, eras_unchecked, none_collected}
 use Rattle.part_runs.proofs.Ends.{no_era_since}
 
@@ -74,23 +75,31 @@ await_end limits before (e ∷ es) round era awaited inside c =
 module _ (file : List ℕ) (limits : Limits) (lay : Layout) where
   -- the last round's entries are of its number and era
   inside_at : (xs : List PartRound) (r : PartRound) (round era base : ℕ) (m : State (Stamped Hand) Object) →
-      ArePartRounds file limits lay round era base m (xs ++ r ∷ []) → Each (IsIn (round + length xs) (next_era era xs)) r.entries
+      ArePartRounds file limits lay round era base m (xs ++ r ∷ []) → Each (IsIn (round + length xs) (era_after era xs)) r.entries
   inside_at [] r round era base m are =
       let z : round ≡ round + 0 = omega arith in
       subst (λ (n : ℕ). Each (IsIn n era) r.entries) z are.1.inside
   inside_at (x ∷ xs) r round era base m are =
       let z : round + 1 + length xs ≡ round + length (x ∷ xs) = omega arith in
-      subst (λ (n : ℕ). Each (IsIn n (next_era era (x ∷ xs))) r.entries) z
+      subst (λ (n : ℕ). Each (IsIn n (era_after era (x ∷ xs))) r.entries) z
       (inside_at xs r (round + 1) (cond x.ends (era + 1) era) (last_stamp (table_round m x)) x.next are.2)
 
 -- what is collected from where a round begins awaits its end
 pub round_awaits : (file : List ℕ) (limits : Limits) (lay : Layout) (past : Past) (m : State (Stamped Hand) Object) (rs : List PartRound) (r : PartRound)
     (awaited : List Awaited) → AreRounds file limits lay past m (rs ++ r ∷ []) →
     let before = entries_of_rounds rs in
-    let h = moments_in (length rs) (next_era 0 rs) (before ++ r.entries) in
-    Collects limits.epochs h (length (moments_in (length rs) (next_era 0 rs) before)) (length h) awaited →
+    let h = moments_in (length rs) (era_after 0 rs) (before ++ r.entries) in
+    Collects limits.epochs h (length (moments_in (length rs) (era_after 0 rs) before)) (length h) awaited →
     AwaitRoundEnd limits before r.entries awaited
 round_awaits file limits lay past m rs r awaited all c =
     let z : 0 + length rs ≡ length rs = omega arith in
-    await_end limits (entries_of_rounds rs) r.entries (length rs) (next_era 0 rs) awaited
-    (subst (λ (n : ℕ). Each (IsIn n (next_era 0 rs)) r.entries) z (inside_at file limits lay rs r 0 0 0 m all.parts)) c
+    await_end limits (entries_of_rounds rs) r.entries (length rs) (era_after 0 rs) awaited
+    (subst (λ (n : ℕ). Each (IsIn n (era_after 0 rs)) r.entries) z (inside_at file limits lay rs r 0 0 0 m all.parts)) c
+
+-- so what all workers of a round told awaits its end
+pub told_awaits : (file : List ℕ) (limits : Limits) (lay : Layout) (past : Past) (m : State (Stamped Hand) Object) (rs : List PartRound) (r : PartRound)
+    (told : List (List Awaited)) (awaited : List Awaited) → AreRounds file limits lay past m (rs ++ r ∷ []) →
+    AllAwait file limits 0 (rs ++ r ∷ []) (told ++ awaited ∷ []) → AwaitRoundEnd limits (entries_of_rounds rs) r.entries awaited
+told_awaits file limits lay past m rs r told awaited all await =
+    round_awaits file limits lay past m rs r awaited all
+    (round_collects file limits lay m all.limits_are.watcher all.first all.accepted rs r told awaited all.parts await (length rs))

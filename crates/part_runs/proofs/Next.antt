@@ -18,9 +18,10 @@ use Rattle.table_deeds.specs.Rounds.{last_stamp}
 use Rattle.hart_parts.specs.Rounds.{PartRound, table_round, IsPartRound, ArePartRounds}
 use Rattle.whole_parts.specs.Dues.{IsDueRound, AreDueRounds, state_after_rounds, remaining_after, era_of_last}
 use Rattle.cell_loads.specs.Pasts.{TouchesNone, AreQuiet, GoesOn, ArePasts}
+use Rattle.part_races.specs.Rounds.{era_after}
 use Rattle.part_runs.specs.Runs.{entries_of_rounds, AreRoundLimits, AreRounds}
 use Rattle.part_runs.specs.Told.{RoundReports, IsToldRound, AreToldRounds}
-use Rattle.part_runs.specs.Next.{next_era, next_base, past_through, IsNextRound}
+use Rattle.part_runs.specs.Next.{next_base, past_through, IsNextRound}
 
 -- ---- what comes after one more
 
@@ -28,7 +29,7 @@ pub state_then : (m : State (Stamped Hand) Object) (rs : List PartRound) (r : Pa
 state_then m [] r = refl
 state_then m (x ∷ xs) r = state_then x.next xs r
 
-pub era_then : (era : ℕ) (rs : List PartRound) (r : PartRound) → next_era era (rs ++ r ∷ []) ≡ cond r.ends (next_era era rs + 1) (next_era era rs)
+pub era_then : (era : ℕ) (rs : List PartRound) (r : PartRound) → era_after era (rs ++ r ∷ []) ≡ cond r.ends (era_after era rs + 1) (era_after era rs)
 era_then era [] r = refl
 era_then era (x ∷ xs) r = era_then (cond x.ends (era + 1) era) xs r
 
@@ -47,7 +48,7 @@ remaining_then remaining [] r = refl
 remaining_then remaining (x ∷ xs) r = remaining_then (remaining - steps_in x.entries) xs r
 
 -- the era of the last of some rounds is that of the one more
-pub last_then : (before era : ℕ) (rs : List PartRound) (r : PartRound) → era_of_last before era (rs ++ r ∷ []) ≡ next_era era rs
+pub last_then : (before era : ℕ) (rs : List PartRound) (r : PartRound) → era_of_last before era (rs ++ r ∷ []) ≡ era_after era rs
 last_then before era [] r = refl
 last_then before era (x ∷ xs) r = last_then era (cond x.ends (era + 1) era) xs r
 
@@ -55,14 +56,15 @@ last_then before era (x ∷ xs) r = last_then era (cond x.ends (era + 1) era) xs
 
 module _ (file : List ℕ) (limits : Limits) (lay : Layout) where
   parts_then : (rs : List PartRound) (r : PartRound) (round era base : ℕ) (m : State (Stamped Hand) Object) →
-      ArePartRounds file limits lay round era base m rs → r.base ≡ next_base base m rs → IsPartRound file limits lay (round + length rs) (next_era era rs) (state_after_rounds m rs) r →
+      ArePartRounds file limits lay round era base m rs → r.base ≡ next_base base m rs →
+      IsPartRound file limits lay (round + length rs) (era_after era rs) (state_after_rounds m rs) r →
       ArePartRounds file limits lay round era base m (rs ++ r ∷ [])
   parts_then [] r round era base m are base_is one =
       let z : round + 0 ≡ round = omega arith in
       (base_is, subst (λ (n : ℕ). IsPartRound file limits lay n era m r) z one, record {})
   parts_then (x ∷ xs) r round era base m are base_is one =
       let z : round + length (x ∷ xs) ≡ round + 1 + length xs = omega arith in
-      let rest = subst (λ (n : ℕ). IsPartRound file limits lay n (next_era era (x ∷ xs)) (state_after_rounds m (x ∷ xs)) r) z one in
+      let rest = subst (λ (n : ℕ). IsPartRound file limits lay n (era_after era (x ∷ xs)) (state_after_rounds m (x ∷ xs)) r) z one in
       (are.0, are.1, parts_then xs r (round + 1) (cond x.ends (era + 1) era) (last_stamp (table_round m x)) x.next are.2 base_is rest)
 
   pasts_then : (past before : Past) (m : State (Stamped Hand) Object) (rs : List PartRound) (r : PartRound) → ArePasts limits past before m rs →
@@ -80,7 +82,7 @@ module _ (file : List ℕ) (limits : Limits) (lay : Layout) where
         accepted = all.accepted;
         first = all.first;
         parts = parts_then rs r 0 0 0 m all.parts next.base
-            (subst (λ (n : ℕ). IsPartRound file limits lay n (next_era 0 rs) (state_after_rounds m rs) r) (sym z) next.round);
+            (subst (λ (n : ℕ). IsPartRound file limits lay n (era_after 0 rs) (state_after_rounds m rs) r) (sym z) next.round);
         lawful = next.round.lawful;
         pasts = pasts_then past [] m rs r all.pasts next.goes_on;
       }

@@ -1,5 +1,5 @@
 -- Rounds go on by one more.
-use Rattle.std.specs.Prelude.{◌≡◌, ℕ, ◌+◌, if◌then◌else◌, List, [], ◌∷◌, ◌++◌, length}
+use Rattle.std.specs.Prelude.{◌≡◌, ℕ, List, [], ◌∷◌, ◌++◌, length}
 use Rattle.run_record.specs.declared.limits.Limits.{Limits}
 use Rattle.turn_orders.specs.Machine.{State}
 use Rattle.turn_orders.specs.LineUp.{Stamped}
@@ -11,11 +11,7 @@ use Rattle.table_deeds.specs.Rounds.{last_stamp}
 use Rattle.hart_parts.specs.Rounds.{PartRound, table_round, IsPartRound}
 use Rattle.whole_parts.specs.Dues.{state_after_rounds}
 use Rattle.cell_loads.specs.Pasts.{GoesOn}
-
--- the era of the round after these, of which the first has that era
-abbrev pub next_era : ℕ → List PartRound → ℕ
-next_era era [] = era
-next_era era (r ∷ rs) = next_era (if r.ends then era + 1 else era) rs
+use Rattle.part_races.specs.Rounds.{era_after}
 
 -- the greatest stamp when these rounds are over, where before them it was `base`
 abbrev pub next_base : ℕ → State (Stamped Hand) Object → List PartRound → ℕ
@@ -31,5 +27,5 @@ past_through before (r ∷ rs) = past_through (r.late ++ r.early) rs
 pub record IsNextRound (file : List ℕ) (limits : Limits) (lay : Layout) (m : State (Stamped Hand) Object) (rs : List PartRound)
     (r : PartRound) : Type 0 where
   pub base : r.base ≡ next_base 0 m rs
-  pub round : IsPartRound file limits lay (length rs) (next_era 0 rs) (state_after_rounds m rs) r
+  pub round : IsPartRound file limits lay (length rs) (era_after 0 rs) (state_after_rounds m rs) r
   pub goes_on : GoesOn limits (past_through [] rs) (state_after_rounds m rs) r

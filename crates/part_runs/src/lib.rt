@@ -6,9 +6,10 @@
 //! the traces of these (`owned_law`). The reports which the traces tell there, offered round after round, are those of the history;
 //! and so what is kept of the run is one (`run_law`).
 //!
-//! Below stand `hart_parts` and the laws of rounds of parts, `part_notes`, `whole_parts` and `cell_loads`; and beside them
+//! Below stand `hart_parts` and the laws of rounds of parts, `part_notes`, `whole_parts`, `cell_loads` and `part_races`; and beside them
 //! `report_laws` and `whole_runs`, with reports and runs. The functions here do nothing: the contract of each is a law. The layer
-//! above makes rounds, cites `owned_law` at the end of each, and `run_law` when the run is over.
+//! above makes rounds, carries what it knows of them by `next_law`, cites `awaits_law` and `told_law` at the end of each, and `run_law`
+//! when the run is over.
 #![tactic(auto)]
 
 ghost use Rattle.std.specs.Prelude.{◌≡◌, ℕ, ◌+◌, ◌-◌, if◌then◌else◌, Bool, List, [], ◌∷◌, ◌++◌, length, Option, All, Ok, fold};
@@ -40,7 +41,8 @@ ghost use Rattle.cell_loads.specs.Pasts.{AreQuiet};
 ghost use Rattle.run_laws.specs.Rounds.{steps_in};
 ghost use Rattle.placed_detector.specs.Standing.{Hand};
 ghost use Rattle.hart_parts.specs.Rounds.{PartRound, table_round};
-ghost use Rattle.part_runs.specs.Next.{next_era, next_base, past_through, IsNextRound};
+ghost use Rattle.part_races.specs.Rounds.{AllAwait, era_after};
+ghost use Rattle.part_runs.specs.Next.{next_base, past_through, IsNextRound};
 ghost use Rattle.part_runs.specs.Runs.{entries_of_rounds, AreRoundLimits, AreRounds, AreAllRounds};
 ghost use Rattle.whole_parts.specs.Dues.{HasDesk, IsDueRound, AreDueRounds, state_after_rounds, remaining_after, era_of_last};
 ghost use Rattle.bare_machine.specs.Step.{desk};
@@ -73,8 +75,8 @@ pub fn after_law()
     ensures past { (rs : List PartRound) (r : PartRound) → past_through [] (rs ++ r ∷ []) ≡ r.late ++ r.early }
     ensures entries { (rs : List PartRound) (r : PartRound) → entries_of_rounds (rs ++ r ∷ []) ≡ entries_of_rounds rs ++ r.entries }
     ensures era { (rs : List PartRound) (r : PartRound) →
-        next_era 0 (rs ++ r ∷ []) ≡ (if r.ends then next_era 0 rs + 1 else next_era 0 rs) }
-    ensures last_era { (rs : List PartRound) (r : PartRound) → era_of_last 0 0 (rs ++ r ∷ []) ≡ next_era 0 rs }
+        era_after 0 (rs ++ r ∷ []) ≡ (if r.ends then era_after 0 rs + 1 else era_after 0 rs) }
+    ensures last_era { (rs : List PartRound) (r : PartRound) → era_of_last 0 0 (rs ++ r ∷ []) ≡ era_after 0 rs }
     ensures base { (m : State (Stamped Hand) Object) (rs : List PartRound) (r : PartRound) →
         next_base 0 m (rs ++ r ∷ []) ≡ last_stamp (table_round (state_after_rounds m rs) r) }
     ensures remaining { (limits : Limits) (rs : List PartRound) (r : PartRound) →
@@ -99,14 +101,17 @@ pub fn lawful_law()
 {}
 
 /// What is collected from where a round begins, with the eras that begin before it, up to its end awaits that end, also where the round
-/// has no entries.
+/// has no entries. So does what all workers of a round told of its races.
 pub fn awaits_law()
-    ensures { (file : List ℕ) (limits : Limits) (lay : Layout) (past : Past) (m : State (Stamped Hand) Object) (rs : List PartRound)
+    ensures collected { (file : List ℕ) (limits : Limits) (lay : Layout) (past : Past) (m : State (Stamped Hand) Object) (rs : List PartRound)
         (r : PartRound) (awaited : List Awaited) → AreRounds file limits lay past m (rs ++ r ∷ []) →
         let before = entries_of_rounds rs in
-        let h = moments_in (length rs) (next_era 0 rs) (before ++ r.entries) in
-        Collects limits.epochs h (length (moments_in (length rs) (next_era 0 rs) before)) (length h) awaited →
+        let h = moments_in (length rs) (era_after 0 rs) (before ++ r.entries) in
+        Collects limits.epochs h (length (moments_in (length rs) (era_after 0 rs) before)) (length h) awaited →
         AwaitRoundEnd limits before r.entries awaited }
+    ensures told { (file : List ℕ) (limits : Limits) (lay : Layout) (past : Past) (m : State (Stamped Hand) Object) (rs : List PartRound)
+        (r : PartRound) (told : List (List Awaited)) (awaited : List Awaited) → AreRounds file limits lay past m (rs ++ r ∷ []) →
+        AllAwait file limits 0 (rs ++ r ∷ []) (told ++ awaited ∷ []) → AwaitRoundEnd limits (entries_of_rounds rs) r.entries awaited }
 {}
 
 /// At the end of a round each access that awaits it has a word whose label is a thread's, and of the present era; and it can be sought
