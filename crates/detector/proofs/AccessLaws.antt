@@ -10,7 +10,7 @@ use Rattle.elf_image.specs.File.{image_of, granule_of, granules_of}
 use Rattle.elf_image.specs.Regions.{block}
 use Rattle.elf_image.proofs.MemoryLaws.{granule_below, one_block}
 use Rattle.shadow_word.specs.Decisions.{AreInClock}
-use Rattle.detector.specs.declared.access.Raced.{Raced}
+use Rattle.hart_events.specs.declared.checks.Raced.{Raced}
 use Rattle.run_record.specs.declared.event.Event.{Event}
 use Rattle.run_record.specs.declared.event.Event.TheVariants as events
 use Rattle.run_record.specs.declared.entry.Check.{Check}
@@ -34,7 +34,8 @@ use Rattle.report_laws.specs.Awaited.{Awaited, Collects}
 use Rattle.report_laws.proofs.CollectedLaw.{push_ordered, push_unordered}
 use Rattle.report_laws.proofs.CheckRaces.{same_races, race_at, next_check}
 use Rattle.detector.specs.Detected.{Detected, watcher_of, shadow_at, cells_at, IsGoing}
-use Rattle.detector.specs.Checked.{IsCheckOf, stored_in, raced_of}
+use Rattle.hart_events.specs.Checks.{raced_of}
+use Rattle.detector.specs.Checked.{IsCheckOf, stored_in}
 use Rattle.detector.specs.Stands.{Stands, awaited}
 use Rattle.detector.specs.Checking.{Checking, Half, IsStanding}
 use Rattle.detector.proofs.CheckLaws.{StoresWithin, cell_below, shadow_start, shadow_step, shadow_end}

@@ -23,11 +23,11 @@ use Rattle.race_core.specs.declared.watcher.Candidate.{Candidate}
 use Rattle.race_core.specs.Watched.{Watched, AreWatcherLimits, new_watched}
 use Rattle.turn_laws.specs.Going.{AreRightNow, LoadsNow}
 use Rattle.report_laws.specs.Sound.{first_race_in}
-use Rattle.detector.specs.declared.access.Raced.{Raced}
+use Rattle.hart_events.specs.declared.checks.Raced.{Raced}
 use Rattle.hart_events.specs.Events.{MayRaise, MayEnd, IsAlone, lost_after}
 use Rattle.slot_desk.proofs.DeskLists.{read_at}
 use Rattle.detector.specs.Detected.{Detected, watcher_of, with_watcher, watched_after, after_event, after_note, IsGoing}
-use Rattle.detector.specs.Checked.{raced_of, waits_on}
+use Rattle.hart_events.specs.Checks.{raced_of, waits_on}
 use Rattle.detector.specs.Checking.{Checking, IsStanding, ChecksAll}
 use Rattle.detector.specs.Stands.{Stands}
 use Rattle.slot_desk.specs.Desks.{DeskContents, thread_of}

@@ -1,12 +1,9 @@
 -- The checks of an access.
-use Rattle.std.specs.Prelude.{◌≡◌, ◌+◌, ◌*◌, ℕ, List, [], ◌∷◌, ◌++◌, slice_set, Option, Some, None, option_map}
+use Rattle.std.specs.Prelude.{◌≡◌, ◌+◌, ◌*◌, ℕ, List, slice_set, Option, Some, None, option_map}
 use Rattle.run_record.specs.declared.entry.Check.{Check}
 use Rattle.run_record.specs.declared.entry.Label.{Label}
 use Rattle.run_laws.specs.Accesses.{Access}
 use Rattle.run_laws.specs.Words.{word_of, cell_for}
-use Rattle.detector.specs.declared.access.Raced.{Raced}
-use Rattle.race_core.specs.Watched.{Watched, side_of}
-use Rattle.race_core.specs.declared.watcher.Candidate.{Candidate}
 use Rattle.detector.specs.Detected.{cells_at}
 
 -- The check of a part (its granule and mask) of an access that a thread with the label makes: it loads the granule's four words of the
@@ -23,12 +20,3 @@ pub record IsCheckOf (shadow : List ℕ) (label : Label) (a : Access) (place tur
 abbrev pub stored_in : List ℕ → ℕ → Option (ℕ × ℕ) → List ℕ
 stored_in shadow granule None = shadow
 stored_in shadow granule (Some (cell, word)) = slice_set shadow (4 * granule + cell) word
-
--- what is kept of a word that races
-abbrev pub raced_of : Option (Check × ℕ) → Option Raced
-raced_of found = option_map (λ (l : Check × ℕ). record { granule = l.0.granule; word = l.1 }) found
-
--- what waits for the end of the round after an access, with the word that races
-abbrev pub waits_on : Watched → Access → Option Raced → List Candidate → List Candidate
-waits_on w a None waiting = waiting
-waits_on w a (Some r) waiting = waiting ++ record { mine = side_of w a; granule = r.granule; word = r.word } ∷ []

@@ -14,9 +14,9 @@ use Rattle.run_laws.specs.Present.{cell_now}
 use Rattle.turn_laws.specs.Going.{ChecksPartNow, LoadsNow}
 use Rattle.report_laws.specs.Sound.{first_race_in}
 use Rattle.race_core.specs.Walk.{planned}
-use Rattle.detector.specs.declared.access.Raced.{Raced}
+use Rattle.hart_events.specs.declared.checks.Raced.{Raced}
 use Rattle.detector.specs.Detected.{Detected, watcher_of, shadow_at}
-use Rattle.detector.specs.Checked.{raced_of}
+use Rattle.hart_events.specs.Checks.{raced_of}
 use Rattle.detector.specs.Stands.{Stands}
 
 -- the words that stand after some checks of the next access

@@ -1,5 +1,4 @@
 // The checks of an access.
-ghost use Rattle.std.specs.Option.{option_or};
 ghost use Rattle.std.specs.Prelude.{◌≡◌, ◌≢◌, ◌+◌, ◌*◌, ◌<◌, ◌≤◌, ℕ, ◌-◌, ◌^◌, Some, None, length, position, slice_index, option_map, IsSome, IsSomeAnd, IfOk, OnOk};
 ghost use Rattle.run_record.specs.declared.entry.Label.{Label};
 ghost use Rattle.run_laws.specs.Accesses.{Access, access_of};
@@ -10,11 +9,13 @@ ghost use Rattle.race_core.specs.Watched.{CanBeNoted};
 ghost use Rattle.detector.specs.Hears.{Hears};
 ghost use Rattle.detector.specs.Detected.{watcher_of, cells_at, after_note, IsGoing};
 ghost use Rattle.detector.specs.Checking.{IsStanding, ChecksAll};
-ghost use Rattle.detector.specs.Checked.{IsCheckOf, stored_in, waits_on};
+ghost use Rattle.hart_events.specs.Checks.{waits_on};
+ghost use Rattle.detector.specs.Checked.{IsCheckOf, stored_in};
 
 use crate::Detector;
 use elf_image::Image;
-use race_core::{Candidate, Watcher};
+use hart_events::{Raced, first_raced, raced_word, stored_word, wait_for};
+use race_core::Watcher;
 use run_record::{Check, CheckList, Event, NoMemory};
 
 /// Stores a word in a cell of a granule, if a cell is told.
@@ -25,47 +26,6 @@ fn store(shadow: &mut [u64], granule: u32, stored: Option<(u8, u64)>)
 {
     if let Some((cell, word)) = stored {
         shadow[4 * granule as usize + cell as usize] = word;
-    }
-}
-
-/// A granule, and a word in one of its cells that races with an access.
-#[derive(Clone, Copy)]
-pub struct Raced {
-    pub granule: u32,
-    pub word: u64,
-}
-
-/// What is stored: the word, in the cell that is told.
-fn stored_word(cell: Option<u8>, word: u64) -> Option<(u8, u64)>
-    ensures { result ≡ option_map (λ (i : ℕ). (i, word)) cell }
-{
-    match cell {
-        Some(cell) => Some((cell, word)),
-        None => None,
-    }
-}
-
-/// The word that races, by the cell in which it stands.
-fn raced_word(granule: u32, cells: &[u64; 4], cell: Option<u8>) -> Option<Raced>
-    requires { (i : ℕ) → cell ≡ Some i → i < 4 }
-    ensures { result ≡ option_map (λ (i : ℕ). record { granule = granule; word = slice_index cells.now i }) cell }
-{
-    match cell {
-        Some(cell) => Some(Raced {
-            granule,
-            word: cells[cell as usize],
-        }),
-        None => None,
-    }
-}
-
-/// The first of two, if there is one, and else the other.
-fn first_of(one: Option<Raced>, other: Option<Raced>) -> Option<Raced>
-    ensures { result ≡ option_or one other }
-{
-    match one {
-        Some(raced) => Some(raced),
-        None => other,
     }
 }
 
@@ -150,7 +110,7 @@ impl Detector {
         'parts: while let Some((granule, mask)) = parts.next() {
             let (check, found) = self.check(tid, place, event, turn, granule, mask);
             checks.push(check)?;
-            raced = first_of(raced, found);
+            raced = first_raced(raced, found);
         }
         Ok(raced)
     }
@@ -161,15 +121,12 @@ impl Detector {
         requires access { IsSome (access_of event.now) }
         ensures { (a : Access) → access_of event.now ≡ Some a → OnOk result (self.new ≡ record self.old { waiting = waits_on (watcher_of self.old tid) a raced self.old.waiting }) }
     {
-        if let Some(raced) = raced {
-            let mine = self.watcher(tid).side_now(event)?;
-            self.waiting.push(Candidate {
-                mine,
-                granule: raced.granule,
-                word: raced.word,
-            })?;
-        }
-        Ok(())
+        wait_for(
+            &self.watchers[tid as usize],
+            event,
+            raced,
+            &mut self.waiting,
+        )
     }
 
     // The thread's stack, locks and trace go on by the event.

@@ -17,7 +17,7 @@ use Rattle.shared_table.specs.declared.view.View.{View}
 use Rattle.shared_table.specs.Past.{Slot, Log, Past, IsSound, IsSoundSlot, Turns, turns_at, turns_of, word_by, word_of, cell_of, log_of, logs_after, logs_of, IsOut, Allowed, Lawful, IsCellWord}
 use Rattle.shared_table.specs.Layouts.{objects_of, cells_of, first_of}
 use Rattle.shared_table.specs.Rule.{word_place, slot_place, cell_place, HoldsObject, opener, home_of, HasTurn, Knows, Kept}
-use Rattle.shared_table.specs.Steps.{Mine, logged, holding, took, gave, loaded, stored, parted, new_seat, joined, spent, IfOpening, taken, given, load_told, store_told, learned}
+use Rattle.shared_table.specs.Steps.{Mine, logged, holding, took, gave, loaded, stored, parted, new_seat, joined, spent, FoundLast, IfOpening, taken, given, load_told, store_told, learned}
 use Rattle.shared_table.proofs.Pasts.{if_here, if_else, some_below, Ends, fresh_log, out_stays, log_mine, log_else, turn_stays, sound_stays, cell_word, by_stays, holder_out}
 
 words_set : (ws : List ℕ) (m k n : ℕ) (g g' : ℕ → ℕ) → word_place k < length ws → g' k ≡ n → ((j : ℕ) → j ≢ k → g' j ≡ g j) → ((j : ℕ) → j < m → get_or ws (word_place j) 0 ≡ g j) → (j : ℕ) → j < m → get_or (set ws (word_place k) n) (word_place j) 0 ≡ g' j
@@ -115,6 +115,7 @@ module _ (lay : Layout) where
       subst (λ (z : Layout). Lawful z r.past) (sym k.same_layout) r.lawful,
       k.logs e,
       k.log ∙ ap (λ n. log_of n r.past) e,
+      subst (λ (z : Layout). FoundLast z r.past v.held) (sym k.same_layout) (found_by lay r.past v.number v.held k.turn),
     )
 
     -- the item is added to the past, and the words and homes are those of the longer past

@@ -8,7 +8,7 @@ use Rattle.shared_table.specs.declared.view.Held.{Held}
 use Rattle.shared_table.specs.declared.view.View.{View}
 use Rattle.shared_table.specs.declared.view.Layout.{Layout}
 use Rattle.shared_table.specs.Rule.{word_place, slot_place, cell_place}
-use Rattle.shared_table.specs.Past.{Slot, Past, log_of, logs_of, Lawful, IsSound, IsCellWord}
+use Rattle.shared_table.specs.Past.{Slot, Past, turns_of, log_of, logs_of, Lawful, IsSound, IsCellWord}
 
 abbrev pub Mine : Type 0
 Mine = Me Slot View
@@ -46,9 +46,14 @@ no_layout = record { firsts = []; sizes = []; granules = 0; limits = record { ha
 abbrev pub spent : View
 spent = record { live = false; number = 0; log = []; held = None; logs = []; layout = no_layout }
 
--- there is a lawful past of which these are the logs
+-- what a seat found when it took the object that it holds is what the last turn of that left
+abbrev pub FoundLast : Layout → Past → Option Held → Type 0
+FoundLast lay past None = Unit {0}
+FoundLast lay past (Some h) = (turns_of lay h.object past).value ≡ Some h.found
+
+-- there is a lawful past of which these are the logs, and by it the seat found what it holds
 abbrev pub Told : View → Type 0
-Told v = (past : Past) × Lawful v.layout past × (v.logs ≡ logs_of past) × (v.log ≡ log_of 0 past)
+Told v = (past : Past) × Lawful v.layout past × (v.logs ≡ logs_of past) × (v.log ≡ log_of 0 past) × FoundLast v.layout past v.held
 
 abbrev pub IfOpening : View → Type 0
 IfOpening v = v.number ≡ 0 → Told v

@@ -77,11 +77,12 @@ impl Desk {
         }
     }
 
-    /// How many threads live.
+    /// How many threads live. The desk has room for 1,024 that are made.
     pub fn living(&self) -> u32
         ensures value { result ≡ live_of self.now }
         ensures counted { result ≡ count_by (λ (b : Bool). b) (lives_of self.now) }
         ensures few { result ≤ self.now.harts }
+        ensures kept { length self.now.threads ≡ 1024 }
     {
         self.live
     }

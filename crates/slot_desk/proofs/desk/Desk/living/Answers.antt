@@ -1,4 +1,5 @@
 use Rattle.std.proofs.Common.{◌∙◌}
+use Rattle.std.proofs.lemmas.List.{length-map}
 use Rattle.slot_desk.specs.contracts.desk.Desk.{the_view}
 use Rattle.slot_desk.proofs.LivesLaws.{living_counted}
 use Rattle.slot_desk.proofs.desk.Desk.living.Goals as goal
@@ -8,3 +9,6 @@ returns-clause-counted c = rw (← c.self.view_is) (c.self.invariant.0.counted �
 
 pub returns-clause-few : goal.returns-clause-few
 returns-clause-few c = rw (← c.self.view_is) c.self.invariant.0.few_live
+
+pub returns-clause-kept : goal.returns-clause-kept
+returns-clause-kept c = rw (← c.self.view_is) (length-map ∙ c.self.invariant.0.all_threads)
