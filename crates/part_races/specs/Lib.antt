@@ -1,3 +1,4 @@
 pub mod Awaits
 pub mod Rounds
 pub mod Sorting
+pub mod Telling
