@@ -213,7 +213,7 @@ numbered_more n [] cs a e = (subst (λ (m : ℕ). Each (λ (c : Check). c.event 
 numbered_more n (ds ∷ css) cs a e =
     (a.0, numbered_more (n + 1) css cs a.1 (subst (λ (m : ℕ). Each (λ (c : Check). c.event ≡ m) cs) (let z : n + suc (length css) ≡ n + 1 + length css = omega arith in z) e))
 
-bare_trans : (x y z : Option Object) → SameBare x y → SameBare y z → SameBare x z
+pub bare_trans : (x y z : Option Object) → SameBare x y → SameBare y z → SameBare x z
 bare_trans None None None a b = tt
 bare_trans (Some (Stripe s)) (Some (Stripe r)) (Some (Stripe q)) a b = (b.0 ∙ a.0, b.1 ∙ a.1, b.2 ∙ a.2)
 bare_trans (Some (Desk d)) (Some (Desk e)) (Some (Desk f)) a b = (b.0 ∙ a.0, b.1 ∙ a.1)

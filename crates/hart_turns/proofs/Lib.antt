@@ -5,3 +5,6 @@ pub mod AllEvents
 pub mod Making
 pub mod Serving
 pub mod AtStripes
+pub mod DeskThreads
+pub mod DeskTurns
+pub mod UnheardThreads

@@ -49,6 +49,11 @@ IsQuiet (events.Lock addr read) = Unit {0}
 IsQuiet (events.Unlock addr read) = Unit {0}
 IsQuiet _ = ⊥
 
+-- how many threads the event tells to be made
+abbrev pub made_by : Event → ℕ
+made_by (events.Create child) = 1
+made_by _ = 0
+
 -- by the desk the thread lives, and may end where it does
 pub record MayHear (w : Watched) (d : DeskContents) (t : ℕ) (e : Event) : Type 0 where
   pub lives : (thread_of d t).lives ≡ true

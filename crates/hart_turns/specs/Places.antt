@@ -1,5 +1,5 @@
 -- An event of a thread at a place: at an object of the table, or at none.
-use Rattle.std.specs.Prelude.{◌≡◌, ℕ, List, ◌++◌, replicate, Option, Some, None}
+use Rattle.std.specs.Prelude.{◌≡◌, ◌≤◌, ℕ, List, ◌++◌, length, replicate, Option, Some, None}
 use Rattle.run_record.specs.declared.entry.Check.{Check}
 use Rattle.run_record.specs.declared.entry.Label.{Label}
 use Rattle.run_record.specs.declared.event.Event.{Event}
@@ -12,6 +12,7 @@ use Rattle.slot_desk.specs.Desks.{DeskContents}
 use Rattle.slot_desk.specs.Steps.{joined_told}
 use Rattle.sync_slab.specs.Objects.{SyncObjects}
 use Rattle.race_core.specs.Watched.{Watched}
+use Rattle.shared_table.specs.declared.object.DeskState.{DeskState}
 use Rattle.shared_table.specs.declared.object.Object.{Object}
 use Rattle.shared_table.specs.declared.object.Object.TheVariants.{Stripe, Desk}
 use Rattle.shared_table.specs.Past.{IsDeskOf}
@@ -25,12 +26,16 @@ use Rattle.hart_turns.specs.Hearing.{at_rest}
 
 -- ---- places
 
+-- the machine has made each thread that the desk's slots have heard of, and at most 1,024
+abbrev pub HasAllMade : DeskState → Type 0
+HasAllMade d = (d.desk.made ≤ length d.machine.made) × (length d.machine.made ≤ 1024)
+
 -- what an object that was taken has while events are heard there, with those limits: a stripe objects of so many slots, and the
--- desk is one for the limits
+-- desk is one for the limits, whose machine has made its threads
 abbrev pub IsPlace : Limits → ℕ → Option Object → Type 0
 IsPlace limits k None = Unit {0}
 IsPlace limits k (Some (Stripe s)) = s.value.sync.slots ≡ limits.slots
-IsPlace limits k (Some (Desk d)) = (k ≡ 64) × IsDeskOf limits d.value.desk
+IsPlace limits k (Some (Desk d)) = (k ≡ 64) × IsDeskOf limits d.value.desk × HasAllMade d.value
 
 -- what events read and change there; at no object, whatever a place may have
 abbrev pub sync_at : Limits → SyncObjects → Option Object → SyncObjects

@@ -1,5 +1,5 @@
 // An event of a thread at its place.
-ghost use Rattle.std.specs.Prelude.{◌≡◌, ℕ, List, Option, length, IfOk};
+ghost use Rattle.std.specs.Prelude.{◌≡◌, ◌≤◌, ◌+◌, ℕ, true, List, Option, length, IfOk};
 ghost use Rattle.run_record.specs.declared.entry.Check.{Check};
 ghost use Rattle.run_record.specs.declared.event.Event.TheVariants.{Begin};
 ghost use Rattle.elf_image.specs.File.{granules_of};
@@ -7,8 +7,8 @@ ghost use Rattle.shared_table.specs.Seats.{IsSeatOf};
 ghost use Rattle.shared_table.specs.Steps.{Mine};
 ghost use Rattle.hart_events.specs.Events.{IsAlone, IsOfChannel, IsOfDesk};
 ghost use Rattle.shared_table.specs.declared.object.Object.{Object};
-ghost use Rattle.hart_turns.specs.Hearing.{IsReady, IsHeard, IsAccess, IsQuiet};
-ghost use Rattle.hart_turns.specs.Places.{IsPlace, HearsOne};
+ghost use Rattle.hart_turns.specs.Hearing.{IsReady, IsHeard, IsAccess, IsQuiet, made_by};
+ghost use Rattle.hart_turns.specs.Places.{HasAllMade, IsPlace, SameBare, HearsOne};
 
 use crate::hear::{
     Hearing, hear_access, hear_at_stripe, hear_begin, hear_desk, hear_own, is_ready,
@@ -16,7 +16,8 @@ use crate::hear::{
 use elf_image::Image;
 use race_core::Watcher;
 use run_record::{CheckList, Event, Limits, NoMemory};
-use shared_table::{Object, Shared, SharedSeat};
+use crate::unheard::has_unheard;
+use shared_table::{DeskState, Object, Shared, SharedSeat};
 use vector_clock::Clock;
 
 // An event of a channel, at the object that the thread has, if that is a stripe.
@@ -33,10 +34,22 @@ fn hear_channel(
     ensures heard { IfOk result (IsHeard (λ spent. (file : List ℕ) (t at : ℕ) (clock : List ℕ) (checks : List Check) (me : Mine) →
         HearsOne file limits.now number t clock event.now at watcher.old watcher.new place.old place.new checks checks me me spent)) }
     ensures place { IsPlace limits.now number place.new }
+    ensures bare { SameBare place.old place.new }
 {
     match place {
         Some(Object::Stripe(stripe)) => hear_at_stripe(watcher, &mut stripe.sync, number, event),
         _ => Ok(Hearing::Refused),
+    }
+}
+
+// Whether the machine has made a thread that the desk's slots haven't heard of, where the event tells one.
+fn is_made(desk: &DeskState, event: &Event) -> bool
+    requires all { HasAllMade desk.now }
+    ensures { result ≡ true → desk.now.desk.made + made_by event.now ≤ length desk.now.machine.made }
+{
+    match *event {
+        Event::Create(_) => has_unheard(&desk.desk, desk.machine.made.len()),
+        _ => true,
     }
 }
 
@@ -55,9 +68,15 @@ fn hear_of_desk(
     ensures heard { IfOk result (IsHeard (λ spent. (file : List ℕ) (at : ℕ) (clock : List ℕ) (checks : List Check) (me : Mine) →
         HearsOne file limits.now number tid clock event.now at watcher.old watcher.new place.old place.new checks checks me me spent)) }
     ensures place { IsPlace limits.now number place.new }
+    ensures bare { SameBare place.old place.new }
 {
     match place {
-        Some(Object::Desk(desk)) => hear_desk(watcher, &mut desk.desk, limits, tid, event),
+        Some(Object::Desk(desk)) => {
+            if !is_made(desk, event) {
+                return Ok(Hearing::Refused);
+            }
+            hear_desk(watcher, &mut desk.desk, limits, tid, event)
+        }
         _ => Ok(Hearing::Refused),
     }
 }
@@ -130,6 +149,7 @@ pub fn hear_event(
     requires place { IsPlace limits.now number place.old }
     ensures own { IsSeatOf shared.now seat.new }
     ensures place { IsPlace limits.now number place.new }
+    ensures bare { SameBare place.old place.new }
     ensures heard { IfOk result (IsHeard (HearsOne image.now limits.now number tid given.now event.now at watcher.old watcher.new place.old place.new
         checks.old checks.new seat.old.me seat.new.me)) }
 {

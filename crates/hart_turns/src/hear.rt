@@ -10,7 +10,7 @@ ghost use Rattle.shared_table.specs.Seats.{IsSeatOf};
 ghost use Rattle.hart_events.specs.Events.{IsAlone, IsOfChannel, IsOfDesk};
 ghost use Rattle.bare_machine.specs.Memory.{stripe as stripe_of};
 ghost use Rattle.thread_events.specs.Heard.{IsAtKeeper};
-ghost use Rattle.hart_turns.specs.Hearing.{IsReady, MayHear, IsHeard, HearsAlone, HearsBegin, HearsAccess, HearsAtStripe, HearsAtDesk, IsAccess};
+ghost use Rattle.hart_turns.specs.Hearing.{IsReady, MayHear, made_by, IsHeard, HearsAlone, HearsBegin, HearsAccess, HearsAtStripe, HearsAtDesk, IsAccess};
 
 use crate::check::check_access;
 use bare_machine::stripe;
@@ -132,6 +132,7 @@ pub(crate) fn hear_desk(
     requires desk { IsDeskOf limits.now desk.old }
     ensures heard { IfOk result (IsHeard (HearsAtDesk tid event.now watcher.old watcher.new desk.old desk.new)) }
     ensures desk { IsDeskOf limits.now desk.new }
+    ensures made { desk.new.made ≤ desk.old.made + made_by event.now }
 {
     if !may_hear(watcher, desk, tid, limits.epochs, event) {
         return Ok(Hearing::Refused);

@@ -3,7 +3,7 @@ ghost use Rattle.std.specs.Prelude.{◌≡◌, ◌+◌, ◌<◌, ◌^◌, length
 ghost use Rattle.elf_image.specs.File.{granules_of};
 ghost use Rattle.shared_table.specs.Seats.{IsSeatOf};
 ghost use Rattle.hart_turns.specs.Hearing.{IsHeard};
-ghost use Rattle.hart_turns.specs.Places.{IsPlace};
+ghost use Rattle.hart_turns.specs.Places.{IsPlace, SameBare};
 ghost use Rattle.hart_turns.specs.Instructions.{HearsAll};
 
 use crate::events::hear_event;
@@ -38,6 +38,7 @@ pub fn hear_all(
     requires few { base + length events.now < 2 ^ 32 }
     ensures own { IsSeatOf shared.now seat.new }
     ensures place { IsPlace limits.now number place.new }
+    ensures bare { SameBare place.old place.new }
     ensures heard { IfOk result (IsHeard (HearsAll image.now limits.now number tid given.now events.now base watcher.old watcher.new place.old place.new
         checks.old checks.new seat.old.me seat.new.me)) }
 {

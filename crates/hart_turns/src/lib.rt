@@ -9,6 +9,7 @@
 //! is what a worker has to say of it (`TakesSlot`, `LeavesSlot`, `HearsEvents`, `MakesInstruction`).
 #![tactic(auto)]
 
+mod at_desk;
 mod check;
 mod desk;
 mod events;
@@ -17,7 +18,9 @@ mod instruction;
 mod make;
 mod serve;
 mod slots;
+mod unheard;
 
+pub use at_desk::make_at_desk;
 pub use check::check_access;
 pub use desk::serve_at_desk;
 pub use events::hear_event;

@@ -4,7 +4,7 @@ ghost use Rattle.bare_machine.specs.Asked.{IsSound, IsShallow, IsWithin};
 ghost use Rattle.elf_image.specs.File.{granules_of};
 ghost use Rattle.shared_table.specs.Seats.{IsSeatOf};
 ghost use Rattle.hart_turns.specs.Hearing.{IsHeard};
-ghost use Rattle.hart_turns.specs.Places.{IsPlace};
+ghost use Rattle.hart_turns.specs.Places.{IsPlace, SameBare};
 ghost use Rattle.hart_turns.specs.Instructions.{HearsAll};
 ghost use Rattle.hart_turns.specs.Makes.{UsesNothing, MakesAlone, MakesAtStripe};
 ghost use Rattle.hart_turns.specs.Serves.{UsesStripe, HasAsked};
@@ -27,7 +27,7 @@ use vector_clock::Clock;
 const NOWHERE: u32 = 65;
 
 // Hears the events that the thread's instruction told, if its entry has room for them.
-fn hear_told(
+pub(crate) fn hear_told(
     shared: &Shared,
     seat: &mut SharedSeat,
     image: &Image<'_>,
@@ -47,6 +47,7 @@ fn hear_told(
     requires place { IsPlace limits.now number place.old }
     ensures own { IsSeatOf shared.now seat.new }
     ensures place { IsPlace limits.now number place.new }
+    ensures bare { SameBare place.old place.new }
     ensures heard { IfOk result (IsHeard (HearsAll image.now limits.now number tid given.now events.now base watcher.old watcher.new place.old place.new
         checks.old checks.new seat.old.me seat.new.me)) }
 {
@@ -94,7 +95,8 @@ pub fn make_alone(
     )
 }
 
-/// The same for one that uses the stripe of that number, which the thread has taken.
+/// The same for one that uses the stripe of that number, which the thread has taken. Whatever comes of it, the stripe is one that
+/// can be given back.
 pub fn make_at_stripe(
     shared: &Shared,
     seat: &mut SharedSeat,
@@ -123,6 +125,7 @@ pub fn make_at_stripe(
     ensures own { IsSeatOf shared.now seat.new }
     ensures made { IfOk result (IsHeard (MakesAtStripe image.now limits.now shared.now.layout number tid given.now base request.now hart.old hart.new
         watcher.old watcher.new place.old place.new events.new checks.old checks.new seat.old.me seat.new.me)) }
+    ensures sound { IsSoundSlot shared.now.layout number place.new }
 {
     if !serve_at_place(shared, image, tid, hart, request, place, number, events)? {
         return Ok(Hearing::Refused);

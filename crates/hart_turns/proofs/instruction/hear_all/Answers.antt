@@ -1,6 +1,7 @@
 use Rattle.std.proofs.Common.{arith, subst}
 use Rattle.hart_turns.specs.Hearing.{IsHeard}
-use Rattle.hart_turns.proofs.AllEvents.{sofar_start, sofar_next, sofar_end}
+use Rattle.hart_turns.proofs.OneEvent.{same_bare}
+use Rattle.hart_turns.proofs.AllEvents.{bare_trans, sofar_start, sofar_next, sofar_end}
 use Rattle.hart_turns.proofs.instruction.hear_all.Goals as goal
 
 pub loop-event-init : goal.loop-event-init
@@ -10,6 +11,7 @@ loop-event-init c = (
   omega arith,
   sofar_start c.args.image.now c.args.limits.now c.args.number c.args.tid c.args.given.now c.args.base c.args.events.now c.args.watcher.now c.args.place.now
       c.args.checks.now c.args.seat.now.me,
+  same_bare c.args.place.now,
 )
 
 pub loop-event-preserved : goal.loop-event-preserved
@@ -22,6 +24,7 @@ loop-event-preserved c =
           c.args.watcher.now c.loop-event.watcher c.hear_event.new.watcher c.args.place.now c.loop-event.place c.hear_event.new.place c.args.checks.now
           c.loop-event.checks c.hear_event.new.checks c.args.seat.now.me c.loop-event.seat.me c.hear_event.new.seat.me c.loop-event.spent c.in-Heard.label i.3
           c.loop-event-test.true i.2 (subst (IsHeard _) c.in-Heard.is c.in_ok-heard.ensures.heard),
+      bare_trans c.args.place.now c.loop-event.place c.hear_event.new.place i.4 c.in_ok-heard.ensures.bare,
     )
 
 pub returns-clause-heard : goal.returns-clause-heard

@@ -1,6 +1,6 @@
 use Rattle.std.proofs.Common.{◌≡◌, ◌+◌}
 use Rattle.shared_table.specs.Seats.{IsSeatOf}
-use Rattle.hart_turns.specs.Places.{IsPlace}
+use Rattle.hart_turns.specs.Places.{IsPlace, SameBare}
 use Rattle.hart_turns.proofs.AllEvents.{Sofar}
 use Rattle.hart_turns.proofs.instruction.hear_all.Given as goal
 
@@ -11,3 +11,4 @@ invariant-loop-event l =
     × (l.at ≡ l.base + l.event-index)
     × Sofar l.image l.limits l.number l.tid l.given l.base l.event-index l.events l.initial.watcher l.watcher l.initial.place l.place
     l.initial.checks l.checks l.initial.seat.me l.seat.me l.spent
+    × SameBare l.initial.place l.place
