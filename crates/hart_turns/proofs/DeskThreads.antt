@@ -25,6 +25,8 @@ use Rattle.slot_desk.specs.Steps.{is_full, created, after_create, ended, after_e
 use Rattle.watched_turns.specs.Checking.{Loads}
 use Rattle.placed_detector.specs.Instructions.{Beside, HearsEvent, HearsEvents}
 use Rattle.hart_steps.specs.Asked.{UsesDesk}
+use Rattle.thread_events.specs.Heard.{desk_after}
+use Rattle.hart_turns.specs.Hearing.{made_by}
 use Rattle.hart_turns.specs.AtDesk.{MayUse}
 
 -- ---- a thread that is made, and one that ends
@@ -77,6 +79,20 @@ ended_threads d t clock holds = at (held_of d t) holds
     at None s = absurd (cc)
     at (Some h) s =
         (ap (take d.made) (map-set lives d.threads t (record { lives = false; told = Some clock })) ∙ take_set_any d.made (map lives d.threads) t false, refl)
+
+-- an event makes the slots hear of no more threads than it tells to be made
+pub made_after : (d : DeskContents) (t : ℕ) (clock : List ℕ) (e : Event) → (desk_after d t clock e).made ≤ d.made + made_by e
+made_after d t clock (events.Create child) = at (is_full d)
+  where
+    at : (b : Bool) → (cond b d (more d clock)).made ≤ d.made + 1
+    at true = omega arith
+    at false = omega arith
+made_after d t clock events.End = at (held_of d t)
+  where
+    at : (o : Option (ℕ × ℕ)) → (left_by d t clock o).made ≤ d.made + 0
+    at None = omega arith
+    at (Some h) = omega arith
+made_after d t clock _ = omega arith
 
 -- ---- the events of an instruction
 

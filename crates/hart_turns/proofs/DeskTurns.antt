@@ -158,7 +158,9 @@ module _ (file : List ℕ) (limits : Limits) (lay : Layout) (t : ℕ) (clock : L
   made_of (Some (Stripe s)) served place' found is whole hears = absurd found
   made_of None served place' found is whole hears = absurd found
 
-  pub made_at_desk : (place place' : Option Object) → IsWhole limits place → IsWhole limits place' →
+  -- where nothing had to be settled then
+  pub made_at_desk : (place place' settled : Option Object) → settled ≡ place' → IsWhole limits place → IsWhole limits settled →
       HeardAtDesk file limits t clock base r h left w w' place place' es before after old new spent →
-      MakesAtDesk file limits lay t clock base r h left w w' place place' es before after old new spent
-  made_at_desk place place' found whole heard = made_of place heard.served place' found heard.serves whole heard.hears
+      MakesAtDesk file limits lay t clock base r h left w w' place settled es before after old new spent
+  made_at_desk place place' settled kept found whole heard = made_of place heard.served settled found heard.serves whole
+      (subst (λ (o : Option Object). HearsAll file limits desk t clock es base w w' heard.served o before after old new spent) (sym kept) heard.hears)

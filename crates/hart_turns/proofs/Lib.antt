@@ -8,3 +8,4 @@ pub mod AtStripes
 pub mod DeskThreads
 pub mod DeskTurns
 pub mod UnheardThreads
+pub mod Kept

@@ -8,7 +8,7 @@ ghost use Rattle.shared_table.specs.Seats.{IsSeatOf};
 ghost use Rattle.hart_steps.specs.Asked.{UsesDesk};
 ghost use Rattle.hart_turns.specs.Hearing.{IsHeard};
 ghost use Rattle.hart_turns.specs.Serves.{HasAsked};
-ghost use Rattle.hart_turns.specs.AtDesk.{MayUse, IsLoose, ServedInDesk, HeardAtDesk, MakesAtDesk};
+ghost use Rattle.hart_turns.specs.AtDesk.{MayUse, IsLoose, IsWhole, ServedInDesk, HeardAtDesk, MakesAtDesk};
 
 use crate::desk::serve_at_desk;
 use crate::hear::Hearing;
@@ -38,6 +38,7 @@ fn may_use(desk: &Desk, tid: u32, request: &Request) -> bool
 }
 
 // Serves what the thread asked for at the object that it has taken, if that is the desk.
+#[tactic(auto, using(crate::proofs::DeskTurns::loose_whole))]
 fn serve_in_desk(
     image: &Image<'_>,
     limits: &Limits,
@@ -69,6 +70,7 @@ fn serve_in_desk(
 }
 
 // Serves it and hears the events.
+#[tactic(auto, using(crate::proofs::DeskTurns::place_loose, crate::proofs::DeskTurns::loose_kept))]
 fn serve_and_hear(
     shared: &Shared,
     seat: &mut SharedSeat,
@@ -106,6 +108,7 @@ fn serve_and_hear(
 }
 
 /// The same for one that uses the desk, which the thread has taken. Whatever comes of it, the desk is one that can be given back.
+#[tactic(auto, using(crate::proofs::DeskTurns::whole_of, crate::proofs::DeskTurns::sound_of))]
 pub fn make_at_desk(
     shared: &Shared,
     seat: &mut SharedSeat,

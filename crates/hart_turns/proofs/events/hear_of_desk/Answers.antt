@@ -5,8 +5,8 @@ use Rattle.hart_turns.specs.Places.{IsPlace}
 use Rattle.hart_turns.proofs.OneEvent.{heard_map, desk_one}
 use Rattle.hart_turns.proofs.events.hear_of_desk.Goals as goal
 
-pub returns-in-Some-Desk-clause-heard : goal.returns-in-Some-Desk-clause-heard
-returns-in-Some-Desk-clause-heard c =
+pub returns-else-not-is_made-clause-heard : goal.returns-else-not-is_made-clause-heard
+returns-else-not-is_made-clause-heard c =
     let v = c.deref_mut.ensures.value in
     let is = c.in-Some-Desk.is ∙ ap Some c.in-Some-Desk.field-0-is in
     heard_map _ _ c.hear_desk.result
