@@ -1,6 +1,6 @@
 -- The parts of an access, checked one after another at the cells of the table, and the first word that races.
 use Rattle.std.proofs.Common.{◌≡◌, ◌<◌, ℕ, ◌%◌, Option, Some, None, List, [], ◌∷◌, ◌++◌, length, get_or, append-nil, append_assoc, length-append, refl, ap, ap₂, sym, subst, ◌∙◌, arith}
-use Rattle.std.specs.Prelude.{All, IsSome, IsSomeAnd, Ok, option_map, position, slice_index}
+use Rattle.std.specs.Prelude.{All, IsSome, IsSomeAnd, Result, Ok, Err, IfOk, OnOk, option_map, position, slice_index}
 use Rattle.std.specs.Option.{option_or}
 use Rattle.std.specs.List.{AllZip}
 use Rattle.std.proofs.lemmas.Grind.{flat_map-append}
@@ -8,6 +8,7 @@ use Rattle.std.proofs.Math.Seq.{get_or-append_seam}
 use Rattle.run_record.specs.declared.entry.Check.{Check}
 use Rattle.run_record.specs.declared.entry.Label.{Label}
 use Rattle.run_record.specs.declared.event.Event.{Event}
+use Rattle.run_record.specs.declared.no_memory.NoMemory.{NoMemory}
 use Rattle.elf_image.specs.File.{image_of, granule_of, granules_of}
 use Rattle.run_laws.specs.Accesses.{Access, access_of, Part, parts_of}
 use Rattle.run_laws.specs.Candidates.{is_race}
@@ -16,15 +17,16 @@ use Rattle.report_laws.specs.Sound.{race_in, first_race_in}
 use Rattle.report_laws.proofs.CheckRaces.{next_check, race_at}
 use Rattle.turn_orders.proofs.Members.{each_append}
 use Rattle.race_core.specs.Watched.{Watched}
+use Rattle.race_core.specs.declared.watcher.Candidate.{Candidate}
 use Rattle.race_core.specs.Walk.{pair_of, planned}
 use Rattle.race_core.proofs.PartsLaws.{with_bytes, of_granules}
 use Rattle.shared_table.specs.Past.{Log}
 use Rattle.shared_table.specs.Steps.{Mine}
 use Rattle.placed_detector.specs.Instructions.{ChecksAccess, ChecksPart}
 use Rattle.hart_events.specs.declared.checks.Raced.{Raced}
-use Rattle.hart_events.specs.Checks.{raced_of}
+use Rattle.hart_events.specs.Checks.{raced_of, waits_on}
 use Rattle.hart_parts.specs.Parts.{touches_of, all_touches}
-use Rattle.hart_turns.specs.Checks.{with_items, MadeSteps, IsCheckOn, raced_in, ChecksAll, Half}
+use Rattle.hart_turns.specs.Checks.{with_items, MadeSteps, IsCheckOn, raced_in, ChecksAll, Checks, Half}
 use Rattle.std.specs.Prelude.{map}
 
 -- ---- steps of a seat
@@ -150,3 +152,11 @@ module _ (file : List ℕ) (w : Watched) (e : Event) (place : ℕ) where
     steps = half.steps;
     raced_is = half.raced_is;
   }
+
+  -- and then the access waits, where a word races
+  pub waited_for : (before after : List Check) (waited waiting : List Candidate) (old new : Mine) (raced : Option Raced) (r : Result (Unit {0}) NoMemory) →
+      ChecksAll file w e place before after old new raced →
+      ((a : Access) → access_of e ≡ Some a → OnOk r (waiting ≡ waits_on w a raced waited)) →
+      IfOk r (λ done. Checks file w e place before after waited waiting old new)
+  waited_for before after waited waiting old new raced (Ok u) all waits = record { raced = raced; checks = all; waits = waits }
+  waited_for before after waited waiting old new raced (Err x) all waits = tt
