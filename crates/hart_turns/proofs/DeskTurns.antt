@@ -1,6 +1,6 @@
 -- An instruction that is made at the desk.
 use Rattle.std.specs.Global.{Box}
-use Rattle.std.proofs.Common.{◌≡◌, ◌≤◌, ℕ, Bool, Option, Some, None, List, [], length, refl, ap, ap₂, sym, subst, ◌∙◌, arith}
+use Rattle.std.proofs.Common.{◌≡◌, ◌≤◌, ℕ, Bool, Option, Some, None, List, [], length, map, refl, ap, ap₂, sym, subst, ◌∙◌, arith}
 use Rattle.run_record.specs.declared.entry.Check.{Check}
 use Rattle.run_record.specs.declared.entry.Label.{Label}
 use Rattle.run_record.specs.declared.event.Event.{Event}
@@ -17,6 +17,9 @@ use Rattle.place_turns.specs.Turns.{served}
 use Rattle.slot_desk.specs.Desks.{DeskContents, lives_of}
 use Rattle.sync_slab.specs.Objects.{SyncObjects}
 use Rattle.race_core.specs.Watched.{Watched}
+use Rattle.race_core.specs.declared.watcher.Candidate.{Candidate}
+use Rattle.detector.specs.Stands.{awaited}
+use Rattle.part_races.specs.Awaits.{AwaitsEvents, AwaitsInstruction}
 use Rattle.shared_table.specs.declared.object.Object.{Object}
 use Rattle.shared_table.specs.declared.object.Object.TheVariants.{Stripe, Desk}
 use Rattle.shared_table.specs.declared.object.DeskState.{DeskState}
@@ -30,12 +33,12 @@ use Rattle.hart_steps.specs.Harts.{turn, leaves, local_of}
 use Rattle.hart_steps.specs.Desks.{desk_with, desk_value, lives_after}
 use Rattle.machine_desk.specs.Desks.{is_full}
 use Rattle.slot_desk.specs.Desks.{live_of}
-use Rattle.placed_detector.specs.Instructions.{HearsEvents, MakesInstruction}
+use Rattle.placed_detector.specs.Instructions.{HearsEvents}
 use Rattle.hart_turns.specs.Hearing.{at_rest}
 use Rattle.hart_turns.specs.Places.{IsPlace, SameBare}
 use Rattle.hart_turns.specs.Instructions.{loads_of, given_after_all, AreGivenAs, HearsAll}
 use Rattle.hart_turns.specs.Serves.{ServedAtDesk, HasAsked}
-use Rattle.hart_turns.specs.Makes.{hand_at}
+use Rattle.hart_turns.specs.Makes.{hand_at, made_of}
 use Rattle.hart_turns.specs.AtDesk.{MayUse, IsLoose, IsWhole, ServedInDesk, HeardAtDesk, MakesAtDesk}
 use Rattle.hart_turns.proofs.DeskThreads.{Follows, desk_follows}
 
@@ -80,14 +83,14 @@ asks_desk regs (kinds.Stop end) u = refl
 asks_desk regs _ u = absurd u
 
 module _ (file : List ℕ) (limits : Limits) (lay : Layout) (t : ℕ) (clock : List ℕ) (base : ℕ) (r : Request) (h left : Hart) (w w' : Watched) (es : List Event)
-    (before after : List Check) (old new : Mine) (spent : Option Label) (uses : UsesDesk r) (same : lay.limits ≡ limits) where
+    (before after : List Check) (waited waiting : List Candidate) (old new : Mine) (spent : Option Label) (uses : UsesDesk r) (same : lay.limits ≡ limits) where
   object_is : (found : Hart) → Asks file t found h r → object_of (request file t found.thread) ≡ Some desk
   object_is found asks = ap object_of (sym asks.value) ∙ asks_desk h.thread.regs r uses
 
   -- where the desk is d before it is served, then, and at last
   module _ (d d1 d2 : Box DeskState) (threads : HasThreads d.value) (may : MayUse d.value.desk t r)
       (is : ServedAtDesk limits.harts t r h left d.value d1.value es)
-      (hears : HearsAll file limits desk t clock es base w w' (Some (Desk d1)) (Some (Desk d2)) before after old new spent) where
+      (hears : HearsAll file limits desk t clock es base w w' (Some (Desk d1)) (Some (Desk d2)) before after waited waiting old new spent) where
     abbrev no_objects : SyncObjects
     no_objects = record { slots = limits.slots; objects = []; spare = 0 }
 
@@ -119,25 +122,30 @@ module _ (file : List ℕ) (limits : Limits) (lay : Layout) (t : ℕ) (clock : L
         ∙ ap₂ (λ (m : MachineDesk) (ls : List Bool). leaves left (desk_value m ls) es) (sym hears.bare.0) (sym (follows found asks given g).lives_are)
 
     made_here : (found : Hart) → Asks file t found h r → (given : Option (Option (List ℕ))) → AreGivenAs limits.slots given clock es →
-        MakesInstruction file limits.harts w.era t desk (loads_of hears.added) es hears.added (hand_at found w given) (hand_at left w' (given_after_all given es))
-        (held_in file limits desk (Desk d)).state (held_in file limits desk (Desk d2)).state
+        AwaitsInstruction file limits.harts w.era t desk (made_of es hears.added) (hand_at found w given) (hand_at left w' (given_after_all given es))
+        (held_in file limits desk (Desk d)).state (held_in file limits desk (Desk d2)).state (map awaited hears.found)
     made_here found asks given g = record {
-      present = refl;
-      at = record { thread = found.thread; arrived = refl; place = subst (IsAt desk) (sym (object_is found asks)) refl };
-      stepped = turned found asks given g;
-      heard = heard given g;
+      makes = record {
+        present = refl;
+        at = record { thread = found.thread; arrived = refl; place = subst (IsAt desk) (sym (object_is found asks)) refl };
+        stepped = turned found asks given g;
+        heard = heard given g;
+      };
+      awaits = subst (λ (x : DeskContents). AwaitsEvents desk t es hears.added (record { watched = at_rest w; given = given; sync = no_objects; desk = x })
+          (record { watched = at_rest w'; given = given_after_all given es; sync = no_objects; desk = d2.value.desk }) (map awaited hears.found))
+          is.desk_is (hears.awaits no_objects d.value.desk given g);
     }
 
     made_whole : IsWhole limits (Some (Desk d2)) →
-        MakesAtDesk file limits lay t clock base r h left w w' (Some (Desk d)) (Some (Desk d2)) es before after old new spent
+        MakesAtDesk file limits lay t clock base r h left w w' (Some (Desk d)) (Some (Desk d2)) es before after waited waiting old new spent
     made_whole whole = record {
       served = Some (Desk d1);
       hears = hears;
       makes = λ x y p q found asks given g.
-          subst (λ (z : Object). MakesInstruction file limits.harts w.era t desk (loads_of hears.added) es hears.added (hand_at found w given)
-          (hand_at left w' (given_after_all given es)) (held_in file limits desk x).state (held_in file limits desk z).state) (let e : Desk d2 ≡ y = cc in e)
-          (subst (λ (z : Object). MakesInstruction file limits.harts w.era t desk (loads_of hears.added) es hears.added (hand_at found w given)
-          (hand_at left w' (given_after_all given es)) (held_in file limits desk z).state (held_in file limits desk (Desk d2)).state)
+          subst (λ (z : Object). AwaitsInstruction file limits.harts w.era t desk (made_of es hears.added) (hand_at found w given)
+          (hand_at left w' (given_after_all given es)) (held_in file limits desk x).state (held_in file limits desk z).state (map awaited hears.found)) (let e : Desk d2 ≡ y = cc in e)
+          (subst (λ (z : Object). AwaitsInstruction file limits.harts w.era t desk (made_of es hears.added) (hand_at found w given)
+          (hand_at left w' (given_after_all given es)) (held_in file limits desk z).state (held_in file limits desk (Desk d2)).state (map awaited hears.found))
           (let e : Desk d ≡ x = cc in e) (made_here found asks given g));
       object = object_is;
       last_is = λ x y p q.
@@ -148,8 +156,8 @@ module _ (file : List ℕ) (limits : Limits) (lay : Layout) (t : ℕ) (clock : L
     }
 
   made_of : (place served place' : Option Object) → IsWhole limits place → ServedInDesk limits.harts t r h left place served es → IsWhole limits place' →
-      HearsAll file limits desk t clock es base w w' served place' before after old new spent →
-      MakesAtDesk file limits lay t clock base r h left w w' place place' es before after old new spent
+      HearsAll file limits desk t clock es base w w' served place' before after waited waiting old new spent →
+      MakesAtDesk file limits lay t clock base r h left w w' place place' es before after waited waiting old new spent
   made_of (Some (Desk d)) (Some (Desk d1)) (Some (Desk d2)) found is whole hears = made_whole d d1 d2 found.1 is.0 is.1 hears whole
   made_of (Some (Desk d)) (Some (Desk d1)) (Some (Stripe s)) found is whole hears = absurd hears.bare
   made_of (Some (Desk d)) (Some (Desk d1)) None found is whole hears = absurd hears.bare
@@ -160,7 +168,7 @@ module _ (file : List ℕ) (limits : Limits) (lay : Layout) (t : ℕ) (clock : L
 
   -- where nothing had to be settled then
   pub made_at_desk : (place place' settled : Option Object) → settled ≡ place' → IsWhole limits place → IsWhole limits settled →
-      HeardAtDesk file limits t clock base r h left w w' place place' es before after old new spent →
-      MakesAtDesk file limits lay t clock base r h left w w' place settled es before after old new spent
+      HeardAtDesk file limits t clock base r h left w w' place place' es before after waited waiting old new spent →
+      MakesAtDesk file limits lay t clock base r h left w w' place settled es before after waited waiting old new spent
   made_at_desk place place' settled kept found whole heard = made_of place heard.served settled found heard.serves whole
-      (subst (λ (o : Option Object). HearsAll file limits desk t clock es base w w' heard.served o before after old new spent) (sym kept) heard.hears)
+      (subst (λ (o : Option Object). HearsAll file limits desk t clock es base w w' heard.served o before after waited waiting old new spent) (sym kept) heard.hears)

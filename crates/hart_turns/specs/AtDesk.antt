@@ -1,5 +1,5 @@
 -- An instruction that is made at the desk.
-use Rattle.std.specs.Prelude.{◌≡◌, ℕ, List, Option, Some, None, IsSome, length}
+use Rattle.std.specs.Prelude.{◌≡◌, ℕ, List, map, Option, Some, None, IsSome}
 use Rattle.run_record.specs.declared.entry.Check.{Check}
 use Rattle.run_record.specs.declared.entry.Label.{Label}
 use Rattle.run_record.specs.declared.event.Event.{Event}
@@ -8,6 +8,8 @@ use Rattle.bare_machine.specs.declared.request.Request.{Request}
 use Rattle.bare_machine.specs.declared.request.Request.TheVariants as kinds
 use Rattle.bare_machine.specs.Step.{desk}
 use Rattle.race_core.specs.Watched.{Watched}
+use Rattle.race_core.specs.declared.watcher.Candidate.{Candidate}
+use Rattle.detector.specs.Stands.{awaited}
 use Rattle.slot_desk.specs.Desks.{DeskContents, held_of}
 use Rattle.shared_table.specs.declared.object.Object.{Object}
 use Rattle.shared_table.specs.declared.object.Object.TheVariants.{Stripe as InStripe, Desk as InDesk}
@@ -18,11 +20,11 @@ use Rattle.table_deeds.specs.Objects.{held_in, last_in}
 use Rattle.turn_histories.specs.Entries.{next_object}
 use Rattle.hart_steps.specs.declared.hart.Hart.{Hart}
 use Rattle.hart_steps.specs.Asked.{Asks}
-use Rattle.placed_detector.specs.Instructions.{MakesInstruction}
+use Rattle.part_races.specs.Awaits.{AwaitsInstruction}
 use Rattle.hart_turns.specs.Places.{HasAllMade}
-use Rattle.hart_turns.specs.Instructions.{loads_of, given_after_all, AreGivenAs, HearsAll}
+use Rattle.hart_turns.specs.Instructions.{given_after_all, AreGivenAs, HearsAll}
 use Rattle.hart_turns.specs.Serves.{ServedAtDesk}
-use Rattle.hart_turns.specs.Makes.{hand_at}
+use Rattle.hart_turns.specs.Makes.{hand_at, made_of}
 
 -- ---- the desk while a turn is made there
 
@@ -50,22 +52,22 @@ ServedInDesk harts t r asked left _ _ es = ⊥
 
 -- The request was served at the desk, and the events were heard there.
 pub record HeardAtDesk (file : List ℕ) (limits : Limits) (t : ℕ) (clock : List ℕ) (base : ℕ) (r : Request) (asked left : Hart) (w w' : Watched)
-    (place place' : Option Object) (es : List Event) (before after : List Check) (old new : Mine) (spent : Option Label) : Type 0 where
+    (place place' : Option Object) (es : List Event) (before after : List Check) (waited waiting : List Candidate) (old new : Mine) (spent : Option Label) : Type 0 where
   pub served : Option Object
   pub serves : ServedInDesk limits.harts t r asked left place served es
-  pub hears : HearsAll file limits desk t clock es base w w' served place' before after old new spent
+  pub hears : HearsAll file limits desk t clock es base w w' served place' before after waited waiting old new spent
 
 -- Thread t was h when it asked, and made the instruction at the desk of a table with that layout: it found the desk as the first place has it, and left it as
 -- the second does. Which threads live then is what the machine's turn leaves and what the slots have heard.
 pub record MakesAtDesk (file : List ℕ) (limits : Limits) (lay : Layout) (t : ℕ) (clock : List ℕ) (base : ℕ) (r : Request) (asked left : Hart) (w w' : Watched)
-    (place place' : Option Object) (es : List Event) (before after : List Check) (old new : Mine) (spent : Option Label) : Type 0 where
+    (place place' : Option Object) (es : List Event) (before after : List Check) (waited waiting : List Candidate) (old new : Mine) (spent : Option Label) : Type 0 where
   pub served : Option Object
-  pub hears : HearsAll file limits desk t clock es base w w' served place' before after old new spent
+  pub hears : HearsAll file limits desk t clock es base w w' served place' before after waited waiting old new spent
   pub makes :
       (x y : Object) → place ≡ Some x → place' ≡ Some y → (found : Hart) → Asks file t found asked r → (given : Option (Option (List ℕ))) →
       AreGivenAs limits.slots given clock es →
-      MakesInstruction file limits.harts w.era t desk (loads_of hears.added) es hears.added (hand_at found w given) (hand_at left w' (given_after_all given es))
-      (held_in file limits desk x).state (held_in file limits desk y).state
+      AwaitsInstruction file limits.harts w.era t desk (made_of es hears.added) (hand_at found w given) (hand_at left w' (given_after_all given es))
+      (held_in file limits desk x).state (held_in file limits desk y).state (map awaited hears.found)
   pub object : (found : Hart) → Asks file t found asked r → next_object file t (Some found.thread) ≡ Some desk
   pub last_is : (x y : Object) → place ≡ Some x → place' ≡ Some y → last_in y ≡ last_in x
   pub sound : IsSoundSlot lay desk place'

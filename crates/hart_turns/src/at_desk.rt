@@ -6,10 +6,12 @@ ghost use Rattle.shared_table.specs.Layouts.{IsTableOf};
 ghost use Rattle.shared_table.specs.Past.{IsSoundSlot};
 ghost use Rattle.shared_table.specs.Seats.{IsSeatOf};
 ghost use Rattle.hart_steps.specs.Asked.{UsesDesk};
+ghost use Rattle.hart_turns.specs.Checks.{MadeSteps};
 ghost use Rattle.hart_turns.specs.Hearing.{IsHeard};
 ghost use Rattle.hart_turns.specs.Serves.{HasAsked};
 ghost use Rattle.hart_turns.specs.AtDesk.{MayUse, IsLoose, IsWhole, ServedInDesk, HeardAtDesk, MakesAtDesk};
 
+use crate::check::Findings;
 use crate::desk::serve_at_desk;
 use crate::hear::Hearing;
 use crate::make::hear_told;
@@ -19,7 +21,7 @@ use elf_image::Image;
 use entry_calls::CallEvents;
 use hart_steps::Hart;
 use race_core::Watcher;
-use run_record::{CheckList, Limits, NoMemory};
+use run_record::{Limits, NoMemory};
 use shared_table::{Object, Shared, SharedSeat};
 use slot_desk::Desk;
 use vector_clock::Clock;
@@ -84,7 +86,7 @@ fn serve_and_hear(
     place: &mut Option<Object>,
     events: &mut CallEvents,
     base: u32,
-    checks: &mut CheckList,
+    findings: &mut Findings,
 ) -> Result<Hearing, NoMemory>
     requires own { IsSeatOf shared.now seat.old }
     requires granules { shared.now.layout.granules ≡ granules_of image.now }
@@ -95,15 +97,17 @@ fn serve_and_hear(
     requires sound { IsSound request.now }
     requires empty { events.old ≡ [] }
     ensures own { IsSeatOf shared.now seat.new }
+    ensures seat { MadeSteps seat.old.me seat.new.me }
     ensures loose { IsLoose limits.now place.new }
     ensures heard { IfOk result (IsHeard (HeardAtDesk image.now limits.now tid given.now base request.now hart.old hart.new watcher.old watcher.new
-        place.old place.new events.new checks.old checks.new seat.old.me seat.new.me)) }
+        place.old place.new events.new findings.old.checks findings.new.checks
+        findings.old.waiting.items findings.new.waiting.items seat.old.me seat.new.me)) }
 {
     if !serve_in_desk(image, limits, tid, hart, request, place, events)? {
         return Ok(Hearing::Refused);
     }
     hear_told(
-        shared, seat, image, limits, tid, watcher, given, place, DESK, events, base, checks,
+        shared, seat, image, limits, tid, watcher, given, place, DESK, events, base, findings,
     )
 }
 
@@ -122,7 +126,7 @@ pub fn make_at_desk(
     place: &mut Option<Object>,
     events: &mut CallEvents,
     base: u32,
-    checks: &mut CheckList,
+    findings: &mut Findings,
 ) -> Result<Hearing, NoMemory>
     requires own { IsSeatOf shared.now seat.old }
     requires table { IsTableOf image.now limits.now shared.now }
@@ -132,12 +136,14 @@ pub fn make_at_desk(
     requires sound { IsSound request.now }
     requires empty { events.old ≡ [] }
     ensures own { IsSeatOf shared.now seat.new }
+    ensures seat { MadeSteps seat.old.me seat.new.me }
     ensures made { IfOk result (IsHeard (MakesAtDesk image.now limits.now shared.now.layout tid given.now base request.now hart.old hart.new
-        watcher.old watcher.new place.old place.new events.new checks.old checks.new seat.old.me seat.new.me)) }
+        watcher.old watcher.new place.old place.new events.new findings.old.checks findings.new.checks
+        findings.old.waiting.items findings.new.waiting.items seat.old.me seat.new.me)) }
     ensures sound { IsSoundSlot shared.now.layout 64 place.new }
 {
     let heard = serve_and_hear(
-        shared, seat, image, limits, tid, hart, watcher, given, request, place, events, base, checks,
+        shared, seat, image, limits, tid, hart, watcher, given, request, place, events, base, findings,
     );
     if settle(place, limits) {
         return heard;
