@@ -34,7 +34,8 @@ fn hear_channel(
     requires channel { IsOfChannel event.now }
     requires place { IsPlace limits.now number place.old }
     requires ready { IsReady limits.now.slots watcher.old event.now }
-    ensures heard { IfOk result (IsHeard (λ spent. (file : List ℕ) (t at : ℕ) (clock : List ℕ) (checks : List Check) (waiting : List Candidate) (me : Mine) →
+    ensures heard { IfOk result (IsHeard (λ spent. (file : List ℕ) (t at : ℕ) (clock : List ℕ) (checks : List Check)
+        (waiting : List Candidate) (me : Mine) →
         HearsOne file limits.now number t clock event.now at watcher.old watcher.new place.old place.new checks checks waiting waiting me me spent)) }
     ensures place { IsPlace limits.now number place.new }
     ensures bare { SameBare place.old place.new }
@@ -68,7 +69,8 @@ fn hear_of_desk(
     requires of_desk { IsOfDesk event.now }
     requires place { IsPlace limits.now number place.old }
     requires ready { IsReady limits.now.slots watcher.old event.now }
-    ensures heard { IfOk result (IsHeard (λ spent. (file : List ℕ) (at : ℕ) (clock : List ℕ) (checks : List Check) (waiting : List Candidate) (me : Mine) →
+    ensures heard { IfOk result (IsHeard (λ spent. (file : List ℕ) (at : ℕ) (clock : List ℕ) (checks : List Check)
+        (waiting : List Candidate) (me : Mine) →
         HearsOne file limits.now number tid clock event.now at watcher.old watcher.new place.old place.new checks checks waiting waiting me me spent)) }
     ensures place { IsPlace limits.now number place.new }
     ensures bare { SameBare place.old place.new }
@@ -88,7 +90,8 @@ fn hear_of_desk(
 fn hear_quiet(watcher: &mut Watcher, limits: &Limits, event: &Event) -> Result<Hearing, NoMemory>
     requires quiet { IsQuiet event.now }
     requires ready { IsReady limits.now.slots watcher.old event.now }
-    ensures { IfOk result (IsHeard (λ spent. (file : List ℕ) (k t at : ℕ) (clock : List ℕ) (place : Option Object) (checks : List Check) (waiting : List Candidate) (me : Mine) →
+    ensures { IfOk result (IsHeard (λ spent. (file : List ℕ) (k t at : ℕ) (clock : List ℕ) (place : Option Object) (checks : List Check)
+        (waiting : List Candidate) (me : Mine) →
         HearsOne file limits.now k t clock event.now at watcher.old watcher.new place place checks checks waiting waiting me me spent)) }
 {
     hear_own(watcher, event)

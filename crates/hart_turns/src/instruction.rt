@@ -17,8 +17,8 @@ use shared_table::{Object, Shared, SharedSeat};
 use vector_clock::Clock;
 
 /// Hears all events of an instruction at a place, one after another: at an object of that number, which the thread has taken, or at
-/// none. The first of them is the event of the place `base` in its entry, and what their checks find is appended. Tells the label that the last of
-/// them spent.
+/// none. The first of them is the event of the place `base` in its entry, and what their checks find is appended. Tells the label that
+/// the last of them spent.
 pub fn hear_all(
     shared: &Shared,
     seat: &mut SharedSeat,
