@@ -1,8 +1,8 @@
 -- The events of an instruction so far, and one more.
-use Rattle.std.proofs.Common.{◌≡◌, ◌≤◌, ◌<◌, ◌+◌, ℕ, suc, Option, Some, None, List, [], ◌∷◌, ◌++◌, length, get_or, flat_map, cond, ◌==◌, append-nil, append_assoc, length-append, refl, ap, ap₂, sym, subst, ◌∙◌, arith}
+use Rattle.std.proofs.Common.{◌≡◌, ◌≤◌, ◌<◌, ◌+◌, ℕ, suc, Option, Some, None, List, [], ◌∷◌, ◌++◌, length, get_or, flat_map, map, cond, ◌==◌, append-nil, append_assoc, length-append, refl, ap, ap₂, sym, subst, ◌∙◌, arith}
 use Rattle.std.specs.List.{AllZip}
 use Rattle.std.proofs.lemmas.Grind.{flat_map-append}
-use Rattle.std.proofs.lemmas.List.{flat_map_more}
+use Rattle.std.proofs.lemmas.List.{flat_map_more, map-append}
 use Rattle.run_record.specs.declared.entry.Check.{Check}
 use Rattle.run_record.specs.declared.entry.Label.{Label}
 use Rattle.run_record.specs.declared.event.Event.{Event}
@@ -18,6 +18,9 @@ use Rattle.slot_desk.specs.Desks.{DeskContents}
 use Rattle.slot_desk.specs.Steps.{new_desk}
 use Rattle.sync_slab.specs.Objects.{SyncObjects}
 use Rattle.race_core.specs.Watched.{Watched, next_label, raised_to}
+use Rattle.race_core.specs.declared.watcher.Candidate.{Candidate}
+use Rattle.report_laws.specs.Awaited.{Awaited}
+use Rattle.detector.specs.Stands.{awaited}
 use Rattle.thread_events.specs.Heard.{watcher_after, raised_or_lost_to, lost_label_to}
 use Rattle.watched_turns.specs.Checking.{Loads, four}
 use Rattle.watched_turns.specs.Right.{AreLoaded}
@@ -28,6 +31,8 @@ use Rattle.placed_detector.specs.Instructions.{Beside, HearsEvent, HearsEvents, 
 use Rattle.deed_histories.specs.Deeds.{AreNumbered}
 use Rattle.hart_events.specs.Events.{lost_after}
 use Rattle.hart_parts.specs.Parts.{touches_of, all_touches}
+use Rattle.part_races.specs.Awaits.{awaits_at, AwaitsEvents}
+use Rattle.part_races.proofs.Growing.{one_more_event}
 use Rattle.hart_turns.specs.Checks.{with_items}
 use Rattle.hart_turns.specs.Hearing.{at_rest}
 use Rattle.hart_turns.specs.Places.{beside_at, IsGivenAs, SameBare, HearsOne}
@@ -113,6 +118,11 @@ zip_rest w label a (p ∷ ps) (c ∷ cs) z = (record { granule = z.0.granule; wo
 access_rest : (file : List ℕ) (w : Watched) (o : Option Access) (cs : List Check) → ChecksAccess file w o cs → ChecksAccess file (at_rest w) o cs
 access_rest file w None cs none = none
 access_rest file w (Some a) cs c = (c.0, c.1, zip_rest w c.0 a (parts_of (granule_of file) a) cs c.2)
+
+-- an access awaits by the label, the stack, the locks and the clock
+awaits_rest : (w : Watched) (o : Option Access) (cs : List Check) → awaits_at (at_rest w) o cs ≡ awaits_at w o cs
+awaits_rest w None cs = refl
+awaits_rest w (Some a) cs = refl
 
 -- ---- what an event leaves of a watcher
 
@@ -213,7 +223,7 @@ numbered_more n [] cs a e = (subst (λ (m : ℕ). Each (λ (c : Check). c.event 
 numbered_more n (ds ∷ css) cs a e =
     (a.0, numbered_more (n + 1) css cs a.1 (subst (λ (m : ℕ). Each (λ (c : Check). c.event ≡ m) cs) (let z : n + suc (length css) ≡ n + 1 + length css = omega arith in z) e))
 
-bare_trans : (x y z : Option Object) → SameBare x y → SameBare y z → SameBare x z
+pub bare_trans : (x y z : Option Object) → SameBare x y → SameBare y z → SameBare x z
 bare_trans None None None a b = tt
 bare_trans (Some (Stripe s)) (Some (Stripe r)) (Some (Stripe q)) a b = (b.0 ∙ a.0, b.1 ∙ a.1, b.2 ∙ a.2)
 bare_trans (Some (Desk d)) (Some (Desk e)) (Some (Desk f)) a b = (b.0 ∙ a.0, b.1 ∙ a.1)
@@ -238,29 +248,40 @@ no_sync = record { slots = 0; objects = []; spare = 0 }
 
 module _ (file : List ℕ) (limits : Limits) (k t : ℕ) (clock : List ℕ) (base : ℕ) where
   -- these events were heard
-  pub record HeardSo (done : List Event) (w w' : Watched) (place place' : Option Object) (before after : List Check) (old new : Mine) (spent : Option Label) : Type 0 where
+  pub record HeardSo (done : List Event) (w w' : Watched) (place place' : Option Object) (before after : List Check) (waited waiting : List Candidate)
+      (old new : Mine) (spent : Option Label) : Type 0 where
     pub added : List (List Check)
+    pub found : List Candidate
     pub long : length added ≡ length done
     pub checks_are : after ≡ before ++ flat added
+    pub waiting_is : waiting ≡ waited ++ found
     pub numbered : AreNumbered base added
     pub fours : Each (λ (cs : List Check). Each HasFour cs) added
     pub steps : new ≡ with_items (all_touches (flat added)) old
     pub heard :
         (sync : SyncObjects) (desk : DeskContents) (given : Option (Option (List ℕ))) → AreGivenAs limits.slots given clock done → (loads : Loads) → AreAllLoaded loads 0 added →
         HearsEvents file k t loads 0 done added (beside_at limits sync desk place w given) (beside_at limits sync desk place' w' (given_after_all given done))
+    pub awaits :
+        (sync : SyncObjects) (desk : DeskContents) (given : Option (Option (List ℕ))) → AreGivenAs limits.slots given clock done →
+        AwaitsEvents k t done added (beside_at limits sync desk place w given) (beside_at limits sync desk place' w' (given_after_all given done))
+        (map awaited found)
     pub keeps : (given : Option (Option (List ℕ))) → AreGivenAs limits.slots given clock done → Keeps w w' done
     pub spends : (given : Option (Option (List ℕ))) → AreGivenAs limits.slots given clock done → SpendsLast w done spent
     pub bare : SameBare place place'
 
-  pub heard_none : (w : Watched) (place : Option Object) (checks : List Check) (me : Mine) → HeardSo [] w w place place checks checks me me None
-  heard_none w place checks me = record {
+  pub heard_none : (w : Watched) (place : Option Object) (checks : List Check) (waiting : List Candidate) (me : Mine) →
+      HeardSo [] w w place place checks checks waiting waiting me me None
+  heard_none w place checks waiting me = record {
     added = [];
+    found = [];
     long = refl;
     checks_are = sym (append-nil checks);
+    waiting_is = sym (append-nil waiting);
     numbered = tt;
     fours = tt;
     steps = sym (no_items me);
     heard = λ sync desk given g loads l. refl;
+    awaits = λ sync desk given g. (refl, refl);
     keeps = λ given g. keeps_none w;
     spends = λ given g. record { none = λ q. refl; last = λ before e q each. absurd (none_ends before e q) };
     bare = same_bare place;
@@ -271,13 +292,17 @@ module _ (file : List ℕ) (limits : Limits) (k t : ℕ) (clock : List ℕ) (bas
       none_ends (a ∷ xs) x q = (let r : [] ≡ a ∷ (xs ++ x ∷ []) = q in cc)
 
   pub heard_next :
-      (done : List Event) (e : Event) (at : ℕ) (w w' w'' : Watched) (place place' place'' : Option Object) (before mid after : List Check) (old now new : Mine)
-      (was spent : Option Label) → HeardSo done w w' place place' before mid old now was → at ≡ base + length done →
-      HearsOne file limits k t clock e at w' w'' place' place'' mid after now new spent → HeardSo (done ++ e ∷ []) w w'' place place'' before after old new spent
-  heard_next done e at w w' w'' place place' place'' before mid after old now new was spent so is one = record {
+      (done : List Event) (e : Event) (at : ℕ) (w w' w'' : Watched) (place place' place'' : Option Object) (before mid after : List Check)
+      (waited waits waiting : List Candidate) (old now new : Mine) (was spent : Option Label) →
+      HeardSo done w w' place place' before mid waited waits old now was → at ≡ base + length done →
+      HearsOne file limits k t clock e at w' w'' place' place'' mid after waits waiting now new spent →
+      HeardSo (done ++ e ∷ []) w w'' place place'' before after waited waiting old new spent
+  heard_next done e at w w' w'' place place' place'' before mid after waited waits waiting old now new was spent so is one = record {
     added = so.added ++ one.added ∷ [];
+    found = so.found ++ one.found;
     long = omega (arith, so.long, length-append so.added (one.added ∷ []), length-append done (e ∷ []));
     checks_are = one.checks_are ∙ (ap (λ (xs : List Check). xs ++ one.added) so.checks_are ∙ flat_map_more (λ (cs : List Check). cs) before so.added one.added);
+    waiting_is = one.waiting_is ∙ (ap (λ (xs : List Candidate). xs ++ one.found) so.waiting_is ∙ append_assoc waited so.found one.found);
     numbered = numbered_more base so.added one.added so.numbered (subst (λ (n : ℕ). Each (λ (c : Check). c.event ≡ n) one.added) (is ∙ ap (λ (n : ℕ). base + n) (sym so.long)) one.of_event);
     fours = each_append (λ (cs : List Check). Each HasFour cs) so.added (one.added ∷ []) so.fours (access_four file w' (access_of e) one.added one.of_access, tt);
     steps = one.steps ∙ (ap (with_items (all_touches one.added)) so.steps ∙ (more_items (all_touches (flat so.added)) (all_touches one.added) old
@@ -292,6 +317,18 @@ module _ (file : List ℕ) (limits : Limits) (k t : ℕ) (clock : List ℕ) (bas
         (beside_at limits sync desk place'' w'' (given_after e (given_after_all given done)))
         (so.heard sync desk given gs.0 loads ls.0) (one.heard sync desk (given_after_all given done) gs.1) (access_rest file w' (access_of e) one.added one.of_access)
         one.stores ls.1);
+    awaits = λ sync desk given g.
+        let gs = given_parts limits.slots given clock done e g in
+        let old = beside_at limits sync desk place w given in
+        let mid = beside_at limits sync desk place' w' (given_after_all given done) in
+        let new = beside_at limits sync desk place'' w'' (given_after e (given_after_all given done)) in
+        subst (λ (x : Option (Option (List ℕ))). AwaitsEvents k t (done ++ e ∷ []) (so.added ++ one.added ∷ []) old (beside_at limits sync desk place'' w'' x)
+        (map awaited (so.found ++ one.found))) (sym (given_more given done e))
+        (subst (λ (ws : List Awaited). AwaitsEvents k t (done ++ e ∷ []) (so.added ++ one.added ∷ []) old new ws)
+        (ap (λ (ws : List Awaited). map awaited so.found ++ ws) (awaits_rest w' (access_of e) one.added ∙ sym one.awaits)
+        ∙ sym (map-append awaited so.found one.found))
+        (one_more_event k t done so.added old mid new (map awaited so.found) e one.added (so.awaits sync desk given gs.0)
+        (one.heard sync desk (given_after_all given done) gs.1)));
     keeps = λ given g.
         let gs = given_parts limits.slots given clock done e g in
         keeps_more w w' w'' done e k t _ _ _ _ _ _ (so.keeps given gs.0) (one.heard no_sync (new_desk limits) (given_after_all given done) gs.1);
@@ -302,27 +339,32 @@ module _ (file : List ℕ) (limits : Limits) (k t : ℕ) (clock : List ℕ) (bas
   }
 
   -- the first i events were heard, and these are left
-  pub record Sofar (i : ℕ) (es : List Event) (w w' : Watched) (place place' : Option Object) (before after : List Check) (old new : Mine) (spent : Option Label) : Type 0 where
+  pub record Sofar (i : ℕ) (es : List Event) (w w' : Watched) (place place' : Option Object) (before after : List Check) (waited waiting : List Candidate)
+      (old new : Mine) (spent : Option Label) : Type 0 where
     pub done : List Event
     pub rest : List Event
     pub split : es ≡ done ++ rest
     pub count : length done ≡ i
-    pub heard : HeardSo done w w' place place' before after old new spent
+    pub heard : HeardSo done w w' place place' before after waited waiting old new spent
 
-  pub sofar_start : (es : List Event) (w : Watched) (place : Option Object) (checks : List Check) (me : Mine) → Sofar 0 es w w place place checks checks me me None
-  sofar_start es w place checks me = record { done = []; rest = es; split = refl; count = refl; heard = heard_none w place checks me }
+  pub sofar_start : (es : List Event) (w : Watched) (place : Option Object) (checks : List Check) (waiting : List Candidate) (me : Mine) →
+      Sofar 0 es w w place place checks checks waiting waiting me me None
+  sofar_start es w place checks waiting me =
+      record { done = []; rest = es; split = refl; count = refl; heard = heard_none w place checks waiting me }
 
   pub sofar_next :
-      (i : ℕ) (es : List Event) (x : Event) (at : ℕ) (w w' w'' : Watched) (place place' place'' : Option Object) (before mid after : List Check) (old now new : Mine)
-      (was spent : Option Label) → Sofar i es w w' place place' before mid old now was → i < length es → at ≡ base + i →
-      HearsOne file limits k t clock (get_or es i x) at w' w'' place' place'' mid after now new spent → Sofar (i + 1) es w w'' place place'' before after old new spent
-  sofar_next i es x at w w' w'' place place' place'' before mid after old now new was spent so within is one = go so.rest so.split
+      (i : ℕ) (es : List Event) (x : Event) (at : ℕ) (w w' w'' : Watched) (place place' place'' : Option Object) (before mid after : List Check)
+      (waited waits waiting : List Candidate) (old now new : Mine) (was spent : Option Label) →
+      Sofar i es w w' place place' before mid waited waits old now was → i < length es → at ≡ base + i →
+      HearsOne file limits k t clock (get_or es i x) at w' w'' place' place'' mid after waits waiting now new spent →
+      Sofar (i + 1) es w w'' place place'' before after waited waiting old new spent
+  sofar_next i es x at w w' w'' place place' place'' before mid after waited waits waiting old now new was spent so within is one = go so.rest so.split
     where
       seam : (xs : List Event) (y : Event) (ys : List Event) → get_or (xs ++ y ∷ ys) (length xs) x ≡ y
       seam [] y ys = refl
       seam (z ∷ xs) y ys = seam xs y ys
 
-      go : (rest : List Event) → es ≡ so.done ++ rest → Sofar (i + 1) es w w'' place place'' before after old new spent
+      go : (rest : List Event) → es ≡ so.done ++ rest → Sofar (i + 1) es w w'' place place'' before after waited waiting old new spent
       go [] split = absurd (omega (arith, so.count, ap length split, length-append so.done []))
       go (f ∷ rest) split =
           let same : get_or es i x ≡ f = ap (λ (ys : List Event). get_or ys i x) split ∙ (ap (λ (n : ℕ). get_or (so.done ++ f ∷ rest) n x) (sym so.count) ∙ seam so.done f rest) in
@@ -331,28 +373,34 @@ module _ (file : List ℕ) (limits : Limits) (k t : ℕ) (clock : List ℕ) (bas
             rest = rest;
             split = split ∙ sym (append_assoc so.done (f ∷ []) rest);
             count = omega (arith, so.count, length-append so.done (f ∷ []));
-            heard = heard_next so.done f at w w' w'' place place' place'' before mid after old now new was spent so.heard (is ∙ ap (λ (n : ℕ). base + n) (sym so.count))
-                (subst (λ (y : Event). HearsOne file limits k t clock y at w' w'' place' place'' mid after now new spent) same one);
+            heard = heard_next so.done f at w w' w'' place place' place'' before mid after waited waits waiting old now new was spent so.heard (is ∙ ap (λ (n : ℕ). base + n) (sym so.count))
+                (subst (λ (y : Event). HearsOne file limits k t clock y at w' w'' place' place'' mid after waits waiting now new spent) same one);
           }
 
-  pub sofar_end : (i : ℕ) (es : List Event) (w w' : Watched) (place place' : Option Object) (before after : List Check) (old new : Mine) (spent : Option Label) →
-      Sofar i es w w' place place' before after old new spent → length es ≤ i → HearsAll file limits k t clock es base w w' place place' before after old new spent
-  sofar_end i es w w' place place' before after old new spent so all =
+  pub sofar_end : (i : ℕ) (es : List Event) (w w' : Watched) (place place' : Option Object) (before after : List Check)
+      (waited waiting : List Candidate) (old new : Mine) (spent : Option Label) →
+      Sofar i es w w' place place' before after waited waiting old new spent → length es ≤ i →
+      HearsAll file limits k t clock es base w w' place place' before after waited waiting old new spent
+  sofar_end i es w w' place place' before after waited waiting old new spent so all =
       let none : so.rest ≡ [] = empty so.rest (omega (arith, so.count, ap length so.split, length-append so.done so.rest)) in
-      subst (λ (xs : List Event). HearsAll file limits k t clock xs base w w' place place' before after old new spent)
+      subst (λ (xs : List Event). HearsAll file limits k t clock xs base w w' place place' before after waited waiting old new spent)
       (sym (so.split ∙ (ap (λ (xs : List Event). so.done ++ xs) none ∙ append-nil so.done))) (whole so.done so.heard)
     where
       empty : (xs : List Event) → length xs ≡ 0 → xs ≡ []
       empty [] z = refl
       empty (x ∷ xs) z = absurd (omega arith)
 
-      whole : (done : List Event) → HeardSo done w w' place place' before after old new spent → HearsAll file limits k t clock done base w w' place place' before after old new spent
+      whole : (done : List Event) → HeardSo done w w' place place' before after waited waiting old new spent →
+          HearsAll file limits k t clock done base w w' place place' before after waited waiting old new spent
       whole done h = record {
         added = h.added;
+        found = h.found;
         checks_are = h.checks_are;
+        waiting_is = h.waiting_is;
         numbered = h.numbered;
         steps = h.steps;
         heard = λ sync desk given g. h.heard sync desk given g (loads_of h.added) (loads_loaded h.added h.fours);
+        awaits = h.awaits;
         era = λ given g. (h.keeps given g).era;
         spends = h.spends;
         bare = h.bare;

@@ -5,3 +5,7 @@ pub mod AllEvents
 pub mod Making
 pub mod Serving
 pub mod AtStripes
+pub mod DeskThreads
+pub mod DeskTurns
+pub mod UnheardThreads
+pub mod Kept

@@ -9,6 +9,7 @@ use Rattle.slot_desk.specs.Desks.{DeskContents, thread_of}
 use Rattle.sync_slab.specs.Objects.{SyncObjects}
 use Rattle.trace_parts.specs.Held.{with_spare}
 use Rattle.race_core.specs.Watched.{Watched, CanBeNoted}
+use Rattle.race_core.specs.declared.watcher.Candidate.{Candidate}
 use Rattle.shared_table.specs.Steps.{Mine}
 use Rattle.thread_events.specs.Heard.{watcher_after, desk_after, ObjectsAfter, IsAtKeeper, IsGranted}
 use Rattle.hart_events.specs.Events.{MayEnd, lost_after}
@@ -49,6 +50,11 @@ IsQuiet (events.Lock addr read) = Unit {0}
 IsQuiet (events.Unlock addr read) = Unit {0}
 IsQuiet _ = ⊥
 
+-- how many threads the event tells to be made
+abbrev pub made_by : Event → ℕ
+made_by (events.Create child) = 1
+made_by _ = 0
+
 -- by the desk the thread lives, and may end where it does
 pub record MayHear (w : Watched) (d : DeskContents) (t : ℕ) (e : Event) : Type 0 where
   pub lives : (thread_of d t).lives ≡ true
@@ -71,8 +77,9 @@ pub record HearsBegin (given : List ℕ) (w w' : Watched) (spent : Option Label)
   pub watcher : (set : SyncObjects) (desk : DeskContents) → at_rest w' ≡ watcher_after (Some given) set desk events.Begin (at_rest w)
 
 -- the access was checked, and then noted
-pub record HearsAccess (file : List ℕ) (e : Event) (place : ℕ) (w w' : Watched) (before after : List Check) (old new : Mine) (spent : Option Label) : Type 0 where
-  pub checks : Checks file w e place before after old new
+pub record HearsAccess (file : List ℕ) (e : Event) (place : ℕ) (w w' : Watched) (before after : List Check) (waited waiting : List Candidate)
+    (old new : Mine) (spent : Option Label) : Type 0 where
+  pub checks : Checks file w e place before after waited waiting old new
   pub alone : HearsAlone e w w' spent
 
 -- the event of a channel, at the stripe k, whose objects were the first and are the second

@@ -1,5 +1,5 @@
 -- The events of an instruction, one after another at one place.
-use Rattle.std.specs.Prelude.{◌≡◌, ℕ, zero, suc, false, List, [], ◌∷◌, ◌++◌, flat_map, get_or, Option, None}
+use Rattle.std.specs.Prelude.{◌≡◌, ℕ, zero, suc, false, List, [], ◌∷◌, ◌++◌, flat_map, map, get_or, Option, None}
 use Rattle.run_record.specs.declared.entry.Check.{Check}
 use Rattle.run_record.specs.declared.entry.Label.{Label}
 use Rattle.run_record.specs.declared.event.Event.{Event}
@@ -9,6 +9,8 @@ use Rattle.turn_orders.specs.Lists.{Each}
 use Rattle.slot_desk.specs.Desks.{DeskContents}
 use Rattle.sync_slab.specs.Objects.{SyncObjects}
 use Rattle.race_core.specs.Watched.{Watched}
+use Rattle.race_core.specs.declared.watcher.Candidate.{Candidate}
+use Rattle.detector.specs.Stands.{awaited}
 use Rattle.watched_turns.specs.Checking.{Loads}
 use Rattle.shared_table.specs.declared.object.Object.{Object}
 use Rattle.shared_table.specs.Steps.{Mine}
@@ -16,6 +18,7 @@ use Rattle.placed_detector.specs.Instructions.{HearsEvents, given_after}
 use Rattle.deed_histories.specs.Deeds.{AreNumbered}
 use Rattle.hart_events.specs.Events.{lost_after}
 use Rattle.hart_parts.specs.Parts.{all_touches}
+use Rattle.part_races.specs.Awaits.{AwaitsEvents}
 use Rattle.hart_turns.specs.Checks.{with_items}
 use Rattle.hart_turns.specs.Places.{beside_at, IsGivenAs, SameBare}
 
@@ -60,17 +63,23 @@ pub record SpendsLast (w : Watched) (es : List Event) (spent : Option Label) : T
 -- ---- all events
 
 -- The events of thread t at place k, of which the first is the one of that place in its entry: they were heard one after another, each
--- with its own checks.
+-- with its own checks, and the accesses among them that loaded a word which races wait for the end of the round.
 pub record HearsAll (file : List ℕ) (limits : Limits) (k t : ℕ) (clock : List ℕ) (es : List Event) (base : ℕ) (w w' : Watched) (place place' : Option Object)
-    (before after : List Check) (old new : Mine) (spent : Option Label) : Type 0 where
+    (before after : List Check) (waited waiting : List Candidate) (old new : Mine) (spent : Option Label) : Type 0 where
   pub added : List (List Check)
+  pub found : List Candidate
   pub checks_are : after ≡ before ++ flat_map (λ (cs : List Check). cs) added
+  pub waiting_is : waiting ≡ waited ++ found
   pub numbered : AreNumbered base added
   pub steps : new ≡ with_items (all_touches (flat_map (λ (cs : List Check). cs) added)) old
   pub heard :
       (sync : SyncObjects) (desk : DeskContents) (given : Option (Option (List ℕ))) → AreGivenAs limits.slots given clock es →
       HearsEvents file k t (loads_of added) 0 es added (beside_at limits sync desk place w given)
       (beside_at limits sync desk place' w' (given_after_all given es))
+  pub awaits :
+      (sync : SyncObjects) (desk : DeskContents) (given : Option (Option (List ℕ))) → AreGivenAs limits.slots given clock es →
+      AwaitsEvents k t es added (beside_at limits sync desk place w given) (beside_at limits sync desk place' w' (given_after_all given es))
+      (map awaited found)
   pub era : (given : Option (Option (List ℕ))) → AreGivenAs limits.slots given clock es → w'.era ≡ w.era
   pub spends : (given : Option (Option (List ℕ))) → AreGivenAs limits.slots given clock es → SpendsLast w es spent
   pub bare : SameBare place place'

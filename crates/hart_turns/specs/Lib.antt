@@ -5,3 +5,4 @@ pub mod Places
 pub mod Instructions
 pub mod Makes
 pub mod Serves
+pub mod AtDesk

@@ -55,5 +55,6 @@ pub record ServedAtDesk (harts t : ℕ) (r : Request) (asked left : Hart) (d d' 
       turn file harts t found (desk_value d.machine (lives_of d.desk))
       ≡ leaves left (desk_value d'.machine (lives_after t (is_full harts (live_of d.desk) d.machine.made) r (lives_of d.desk))) es
   pub few : length d'.machine.made ≤ 1024
+  pub room : length d.desk.threads ≡ 1024
   pub desk_is : d'.desk ≡ d.desk
   pub last_is : d'.last ≡ d.last

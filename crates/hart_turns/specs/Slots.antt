@@ -11,6 +11,7 @@ use Rattle.hart_steps.specs.declared.hart.Hart.{Hart}
 use Rattle.hart_steps.specs.Harts.{absent, local_of}
 use Rattle.hart_steps.specs.Desks.{desk_with, desk_value}
 use Rattle.shared_table.specs.declared.object.DeskState.{DeskState}
+use Rattle.shared_table.specs.Past.{IsDeskOf}
 use Rattle.placed_detector.specs.Standing.{Hand, Held}
 use Rattle.placed_detector.specs.Slots.{given_at, TakesSlot, LeavesSlot}
 use Rattle.hart_turns.specs.declared.slots.ThreadState.{ThreadState}
@@ -61,6 +62,13 @@ pub record TookAt (limits : Limits) (t : ℕ) (old new : ThreadState) (d d' : De
       TakesSlot limits old.watcher.era t label (hand_of old None) (hand_of new (given_at d.desk t (local_in old.hart).thread None)) (held_desk limits d)
       (held_desk limits d')
   pub given : IsGivenTo d t old.hart before after
+  pub machine_is : d'.machine ≡ d.machine
+  pub last_is : d'.last ≡ d.last
+
+-- Whatever comes of it, the desk is one for the limits, with as many threads as before, at the machine and at the slots: it can be given back.
+pub record KeepsDesk (limits : Limits) (d d' : DeskState) : Type 0 where
+  pub desk : IsDeskOf limits d'.desk
+  pub made : d'.desk.made ≡ d.desk.made
   pub machine_is : d'.machine ≡ d.machine
   pub last_is : d'.last ≡ d.last
 

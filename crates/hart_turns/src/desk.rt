@@ -1,5 +1,5 @@
 // Requests that are served at the desk.
-ghost use Rattle.std.specs.Prelude.{◌≡◌, [], OnOk};
+ghost use Rattle.std.specs.Prelude.{◌≡◌, [], OnOk, OnErr};
 ghost use Rattle.bare_machine.specs.Asked.{IsSound};
 ghost use Rattle.shared_table.specs.Past.{HasThreads};
 ghost use Rattle.slot_desk.specs.Desks.{lives_of};
@@ -38,7 +38,8 @@ pub fn serve_at_desk(
     requires threads { HasThreads desk.old }
     requires sound { IsSound request.now }
     requires empty { events.old ≡ [] }
-    ensures { OnOk result (ServedAtDesk harts tid request.now hart.old hart.new desk.old desk.new events.new) }
+    ensures served { OnOk result (ServedAtDesk harts tid request.now hart.old hart.new desk.old desk.new events.new) }
+    ensures err { OnErr result (desk.new ≡ desk.old) }
 {
     let living = desk.desk.living();
     let joined = joined_at(&desk.desk, request);

@@ -10,14 +10,15 @@ ghost use Rattle.shared_table.specs.Seats.{IsSeatOf};
 ghost use Rattle.hart_events.specs.Events.{IsAlone, IsOfChannel, IsOfDesk};
 ghost use Rattle.bare_machine.specs.Memory.{stripe as stripe_of};
 ghost use Rattle.thread_events.specs.Heard.{IsAtKeeper};
-ghost use Rattle.hart_turns.specs.Hearing.{IsReady, MayHear, IsHeard, HearsAlone, HearsBegin, HearsAccess, HearsAtStripe, HearsAtDesk, IsAccess};
+ghost use Rattle.hart_turns.specs.Checks.{MadeSteps};
+ghost use Rattle.hart_turns.specs.Hearing.{IsReady, MayHear, made_by, IsHeard, HearsAlone, HearsBegin, HearsAccess, HearsAtStripe, HearsAtDesk, IsAccess};
 
-use crate::check::check_access;
+use crate::check::{Findings, check_access};
 use bare_machine::stripe;
 use elf_image::Image;
 use hart_events::{begin, hear_alone, hear_at_desk, hear_at_object};
 use race_core::Watcher;
-use run_record::{CheckList, Event, Label, Limits, NoMemory};
+use run_record::{Event, Label, Limits, NoMemory};
 use shared_table::{Shared, SharedSeat};
 use slot_desk::Desk;
 use sync_slab::SyncSet;
@@ -132,6 +133,7 @@ pub(crate) fn hear_desk(
     requires desk { IsDeskOf limits.now desk.old }
     ensures heard { IfOk result (IsHeard (HearsAtDesk tid event.now watcher.old watcher.new desk.old desk.new)) }
     ensures desk { IsDeskOf limits.now desk.new }
+    ensures made { desk.new.made ≤ desk.old.made + made_by event.now }
 {
     if !may_hear(watcher, desk, tid, limits.epochs, event) {
         return Ok(Hearing::Refused);
@@ -154,7 +156,7 @@ pub(crate) fn hear_begin(watcher: &mut Watcher, given: &Clock) -> Hearing
     Hearing::Heard(None)
 }
 
-// An access, the event of that place in its entry, with its checks.
+// An access, the event of that place in its entry, with its checks. Its stack and locks are told before it is noted.
 pub(crate) fn hear_access(
     shared: &Shared,
     seat: &mut SharedSeat,
@@ -162,15 +164,17 @@ pub(crate) fn hear_access(
     watcher: &mut Watcher,
     event: &Event,
     place: u32,
-    checks: &mut CheckList,
+    findings: &mut Findings,
 ) -> Result<Hearing, NoMemory>
     requires own { IsSeatOf shared.now seat.old }
     requires granules { shared.now.layout.granules ≡ granules_of image.now }
     requires access { IsAccess event.now }
     requires ready { IsReady shared.now.layout.limits.slots watcher.old event.now }
     ensures own { IsSeatOf shared.now seat.new }
-    ensures heard { IfOk result (IsHeard (HearsAccess image.now event.now place watcher.old watcher.new checks.old checks.new seat.old.me seat.new.me)) }
+    ensures seat { MadeSteps seat.old.me seat.new.me }
+    ensures heard { IfOk result (IsHeard (HearsAccess image.now event.now place watcher.old watcher.new findings.old.checks findings.new.checks
+        findings.old.waiting.items findings.new.waiting.items seat.old.me seat.new.me)) }
 {
-    check_access(shared, seat, image, watcher, event, place, checks)?;
+    check_access(shared, seat, image, watcher, event, place, findings)?;
     hear_own(watcher, event)
 }

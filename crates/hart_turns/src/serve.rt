@@ -43,7 +43,9 @@ fn serve_at(
     requires shallow { IsShallow request.now hart.old.thread.depth }
     requires within { IsWithin image.now request.now }
     requires empty { events.old ≡ [] }
-    ensures { OnOk result (ServedAt image.now number tid request.now hart.old hart.new stripe.old stripe.new events.new) }
+    ensures served { OnOk result (ServedAt image.now number tid request.now hart.old hart.new stripe.old stripe.new events.new) }
+    ensures size { length stripe.new.words ≡ length stripe.old.words }
+    ensures sync { stripe.new.sync ≡ stripe.old.sync }
 {
     image.accepted();
     let Some(granule) = used_granule(request) else {
@@ -80,8 +82,9 @@ pub(crate) fn serve_at_place(
     requires shallow { IsShallow request.now hart.old.thread.depth }
     requires within { IsWithin image.now request.now }
     requires empty { events.old ≡ [] }
-    ensures { IfOk result (λ served. served ≡ true →
+    ensures served { IfOk result (λ served. served ≡ true →
         ServedIn image.now number tid request.now hart.old hart.new place.old place.new events.new) }
+    ensures sound { IsSoundSlot shared.now.layout number place.new }
 {
     match place {
         Some(Object::Stripe(stripe)) => {

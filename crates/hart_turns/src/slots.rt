@@ -1,17 +1,18 @@
 // A thread that takes a slot at the desk, or leaves it.
-ghost use Rattle.std.specs.Prelude.{◌≡◌, ◌<◌, ℕ, true, List, replicate, length, IfOk};
+ghost use Rattle.std.specs.Prelude.{◌≡◌, ◌<◌, ◌-◌, ◌^◌, ℕ, true, [], None, List, replicate, length, IfOk};
 ghost use Rattle.race_core.specs.Watched.{Watched};
 ghost use Rattle.shared_table.specs.Past.{IsDeskOf, HasThreads};
-ghost use Rattle.hart_events.specs.Events.{IfTook, IfNoneFree};
-ghost use Rattle.slot_desk.specs.Desks.{thread_of};
-ghost use Rattle.hart_turns.specs.Slots.{MayTake, Arrives, IsGivenTo, TookAt, IsUntaken, MayLeave, LeftAt};
+ghost use Rattle.hart_events.specs.Events.{IfTook, IfNoneFree, TookSlot};
+ghost use Rattle.slot_desk.specs.Desks.{thread_of, held_of};
+ghost use Rattle.slot_desk.specs.Steps.{after_attach};
+ghost use Rattle.hart_turns.specs.Slots.{MayTake, Arrives, IsGivenTo, KeepsDesk, TookAt, IsUntaken, MayLeave, LeftAt};
 
-use hart_events::{Attaching, attach};
+use hart_events::Attaching;
 use hart_steps::Hart;
 use race_core::Watcher;
 use run_record::{Label, Limits, NoMemory};
 use shared_table::DeskState;
-use slot_desk::Desk;
+use slot_desk::{Attached, Desk};
 use vector_clock::Clock;
 
 /// What a worker keeps of its thread: its registers, once it has arrived, and its watcher.
@@ -49,9 +50,39 @@ fn arrive(hart: &mut Option<Hart>, desk: &mut DeskState, tid: u32, given: &mut C
     }
 }
 
+// The thread takes the slot at the queue's front, and gets its label. Where the slot has no epoch left, which is so of no slot in the
+// queue of a run, the desk gives it all the same, but the thread gets no label.
+fn take_front(watcher: &mut Watcher, desk: &mut Desk, tid: u32, greatest: u16) -> Attaching
+    requires live { (thread_of desk.old tid).lives ≡ true }
+    requires unheld { held_of desk.old tid ≡ None }
+    requires slots { length watcher.old.clock ≡ length desk.old.slots }
+    requires greatest { greatest ≡ watcher.old.greatest }
+    requires spare { 0 < watcher.old.trace.spare }
+    requires count { watcher.old.trace.count < 2 ^ 64 - 1 }
+    ensures none { IfNoneFree result ((desk.old.queue ≡ []) × (desk.new ≡ desk.old) × (watcher.new ≡ watcher.old)) }
+    ensures took { IfTook result (TookSlot desk.old watcher.old tid desk.new watcher.new) }
+    ensures desk { desk.new ≡ after_attach desk.old tid }
+{
+    match desk.attach(tid, watcher.clock()) {
+        Attached::None => Attaching::NoneFree,
+        Attached::Slot(sid, epoch) => {
+            if sid == 255 || epoch > greatest {
+                return Attaching::Refused;
+            }
+            let label = Label {
+                sid,
+                epoch,
+                era: watcher.era(),
+            };
+            watcher.take_label(label);
+            Attaching::Took(label)
+        }
+    }
+}
+
 /// The thread takes the slot at the queue's front, and gets its label. Where it hasn't arrived, it arrives, and `given`, an empty
-/// clock, becomes what its creator left for it. `Refused` tells that the desk has the thread not as it should, or the slot; desk and
-/// thread are of no use then.
+/// clock, becomes what its creator left for it. `Refused` tells that the desk has the thread not as it should, or the slot; the
+/// thread is of no use then. Whatever comes of it, the desk is one that can be given back.
 pub fn take_slot(
     state: &mut ThreadState,
     desk: &mut DeskState,
@@ -64,12 +95,13 @@ pub fn take_slot(
     requires given { length given.old ≡ limits.now.slots }
     ensures took { IfOk result (λ r. IfTook r (TookAt limits.now tid state.old state.new desk.old desk.new given.old given.new)) }
     ensures none { IfOk result (λ r. IfNoneFree r (IsUntaken state.old state.new desk.old desk.new)) }
+    ensures kept { KeepsDesk limits.now desk.old desk.new }
 {
     if !may_take(&state.watcher, desk, limits.slots, tid) {
         return Ok(Attaching::Refused);
     }
     state.watcher.room()?;
-    let taking = attach(&mut state.watcher, &mut desk.desk, tid, limits.epochs);
+    let taking = take_front(&mut state.watcher, &mut desk.desk, tid, limits.epochs);
     let Attaching::Took(label) = taking else {
         return Ok(taking);
     };
@@ -105,7 +137,8 @@ pub fn leave_slot(
 ) -> bool
     requires desk { IsDeskOf limits.now desk.old.desk }
     requires slots { length watcher.now.clock ≡ limits.now.slots }
-    ensures { result ≡ true → LeftAt limits.now tid label watcher.now desk.old desk.new }
+    ensures left { result ≡ true → LeftAt limits.now tid label watcher.now desk.old desk.new }
+    ensures kept { KeepsDesk limits.now desk.old desk.new }
 {
     if !may_leave(watcher, &desk.desk, tid, label, limits.epochs) {
         return false;

@@ -1,56 +1,8 @@
-use Rattle.std.proofs.Common.{◌<◌, ℕ, ◌%◌, List, ◌∷◌, ap, subst, ◌∙◌, arith}
-use Rattle.elf_image.proofs.MemoryLaws.{few_granules}
-use Rattle.run_record.specs.declared.entry.Label.{Label}
-use Rattle.run_laws.specs.Accesses.{access_of}
-use Rattle.race_core.specs.Parts.{left_of}
-use Rattle.trace_parts.specs.Held.{HeldTrace}
-use Rattle.hart_turns.specs.Checks.{Half}
-use Rattle.hart_turns.proofs.Checking.{some_of, some_and, next_within, next_some, half_start, half_step, half_end}
+use Rattle.hart_turns.proofs.Checking.{waited_for}
 use Rattle.hart_turns.proofs.check.check_access.Goals as goal
-use Rattle.hart_turns.proofs.check.check_access.Goals.{In-Some}
-
-pub parts-init : goal.parts-init
-parts-init c = (c.requires.own, half_start c.args.image.now c.args.watcher.now c.args.event.now c.args.place c.args.checks.now c.args.seat.now.me _ c.plan_access-parts.ensures)
-
--- the parts so far, with the one that comes next
-half_now : (c : In-Some) → Half c.args.image.now c.args.watcher.now c.args.event.now c.args.place c.args.checks.now c.parts.checks c.args.seat.now.me c.parts.seat.me
-    ((c.in-Some.granule, c.in-Some.mask) ∷ left_of c.next.new.self)
-half_now c = subst (λ (left : List (ℕ × ℕ)). Half c.args.image.now c.args.watcher.now c.args.event.now c.args.place c.args.checks.now c.parts.checks
-    c.args.seat.now.me c.parts.seat.me left) c.in-Some.ensures.steps c.parts.invariant.1
-
-pub check-check-requires-clause-granule : goal.check-check-requires-clause-granule
-check-check-requires-clause-granule c =
-    let i = (goal.at.check-check-requires-clause-granule c).In-Some in
-    let half = half_now i in
-    let a = some_of (access_of c.args.event.now) c.requires.access in
-    let z = next_within c.args.image.now a.0 half.done _ (c.in-Some.granule, c.in-Some.mask) c.accepted.ensures (half.parts a.0 a.1) in
-    let y = c.requires.granules in
-    omega arith
-
-pub check-check-requires-clause-few : goal.check-check-requires-clause-few
-check-check-requires-clause-few c = let z = few_granules c.args.image.now c.accepted.ensures in let y = c.requires.granules in omega arith
-
-pub check-check-requires-clause-some_byte : goal.check-check-requires-clause-some_byte
-check-check-requires-clause-some_byte c =
-    let i = (goal.at.check-check-requires-clause-some_byte c).In-Some in
-    let half = half_now i in
-    let a = some_of (access_of c.args.event.now) c.requires.access in
-    next_some c.args.image.now a.0 half.done _ (c.in-Some.granule, c.in-Some.mask) (half.parts a.0 a.1)
-
-pub parts-preserved : goal.parts-preserved
-parts-preserved c =
-    let i = (goal.at.parts-preserved c).In-Some in
-    let half = half_now i in
-    let turn_is = ap (λ (n : ℕ). n % 4) (c.count.ensures ∙ ap (λ (t : HeldTrace). t.count) c.trace.ensures) in (
-      c.check-check.ensures.own,
-      rw (c.in_ok-push.ensures.ok) (half_step c.args.image.now c.args.watcher.now c.args.event.now c.args.place c.args.checks.now c.parts.checks
-          c.args.seat.now.me c.parts.seat.me c.check-check.new.seat.me (c.in-Some.granule, c.in-Some.mask) _ _ c.check-check.result half c.check-check.ensures.check
-          turn_is c.check-check.ensures.log),
-    )
 
 pub returns-clause-checked : goal.returns-clause-checked
 returns-clause-checked c =
-    let a = some_of (access_of c.args.event.now) c.requires.access in
-    let l = some_and (λ (l : Label). l.sid < c.args.shared.now.layout.limits.slots) c.args.watcher.now.label c.requires.can.label in
-    half_end c.args.image.now c.args.watcher.now c.args.event.now c.args.place c.args.checks.now c.parts.checks c.args.seat.now.me c.parts.seat.me
-    (left_of c.parts.parts) a.0 l.0 a.1 l.1 c.in_default.ensures.steps.0 c.parts.invariant.1
+    waited_for c.args.image.now c.args.watcher.now c.args.event.now c.args.place c.args.findings.now.checks c.check_all.new.checks
+    c.args.findings.now.waiting.items c.wait_for.new.waiting.items c.args.seat.now.me c.check_all.new.seat.me c.in_ok-raced.raced c.wait_for.result
+    c.in_ok-raced.ensures.all c.wait_for.ensures

@@ -9,8 +9,8 @@ serve_at_stripe-requires-clause-index c =
     (sym c.in-Some.ensures) c.word_index-index.ensures in
     word_within c.args.image.now c.args.stripe.now.words _ c.word_index-index.result g.inside g.index_is
 
-pub returns : goal.returns
-returns c =
+pub returns-clause-served : goal.returns-clause-served
+returns-clause-served c =
     let g = granule_found c.args.image.now _ c.args.shared.now c.args.number c.args.tid c.args.hart.now c.args.request.now c.args.stripe.now.words c.in-Some.granule
     c.word_index-index.result c.accepted.ensures c.requires.table c.requires.number c.requires.size c.requires.uses c.requires.asked c.requires.within
     (sym c.in-Some.ensures) c.word_index-index.ensures in
