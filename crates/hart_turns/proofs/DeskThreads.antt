@@ -1,6 +1,6 @@
 -- Which threads live by the slots, and how many were made, after a turn at the desk: what the machine's turn leaves.
 use Rattle.std.proofs.Common.{◌≡◌, ◌≤◌, ◌<◌, ◌+◌, ◌==◌, ◌||◌, ℕ, zero, suc, Bool, true, false, cond, Option, Some, None, List, [], ◌∷◌, ◌++◌, length, map, take, set, slice_get, slice_set, slice_index, refl, ap, sym, subst, ◌∙◌, arith, eq-eqb, ne_eqb, inl, inr}
-use Rattle.std.specs.Prelude.{IsSome, is_some}
+use Rattle.std.specs.Prelude.{IsSome}
 use Rattle.std.specs.Option.{option_map_or}
 use Rattle.std.proofs.lemmas.Bool.{cases_eq}
 use Rattle.std.proofs.lemmas.List.{map-set, length-map, length-append, take_more_set}
@@ -15,18 +15,15 @@ use Rattle.bare_machine.specs.Asked.{asked}
 use Rattle.bare_machine.specs.Step.{first_events}
 use Rattle.bare_machine.specs.World.{new_thread}
 use Rattle.rv_exec.specs.Registers.{Registers}
-use Rattle.place_turns.specs.Places.{Local, Value, Desk, of_desk, desk_in}
+use Rattle.place_turns.specs.Places.{Local, Desk, of_desk, desk_in}
 use Rattle.place_turns.specs.Turns.{Turned, served, join_answer}
 use Rattle.place_turns.specs.Turns as turns
-use Rattle.slot_desk.specs.declared.answers.Created.{Created}
 use Rattle.slot_desk.specs.declared.answers.Created.TheVariants.{Thread, Full}
 use Rattle.slot_desk.specs.Desks.{ThreadContents, DeskContents, live_of, lives_of, held_of}
 use Rattle.slot_desk.specs.Steps.{is_full, created, after_create, ended, after_end}
 use Rattle.watched_turns.specs.Checking.{Loads}
 use Rattle.placed_detector.specs.Instructions.{Beside, HearsEvent, HearsEvents}
 use Rattle.hart_steps.specs.Asked.{UsesDesk}
-use Rattle.thread_events.specs.Heard.{desk_after}
-use Rattle.hart_turns.specs.Hearing.{made_by}
 use Rattle.hart_turns.specs.AtDesk.{MayUse}
 
 -- ---- a thread that is made, and one that ends
@@ -63,9 +60,11 @@ made_threads d clock child granted few room = at (is_full d) refl granted
         (lives_of (cond b d (more d clock)) ≡ lives_of d ++ true ∷ []) × ((cond b d (more d clock)).made ≡ d.made + 1)
     at true q g = absurd (cc)
     at false q g =
-        let below = has_room d q few in
-        (ap (take (d.made + 1)) (map-set lives d.threads d.made (record { lives = true; told = Some clock }))
-        ∙ take_more_set (map lives d.threads) d.made true (let z = length-map d.threads lives in omega arith), refl)
+        let below = has_room d q few in (
+          ap (take (d.made + 1)) (map-set lives d.threads d.made (record { lives = true; told = Some clock }))
+              ∙ take_more_set (map lives d.threads) d.made true (let z = length-map d.threads lives in omega arith),
+          refl,
+        )
 
 -- the desk after the end of a thread that holds this, if anything
 abbrev left_by : DeskContents → ℕ → List ℕ → Option (ℕ × ℕ) → DeskContents
@@ -79,20 +78,6 @@ ended_threads d t clock holds = at (held_of d t) holds
     at None s = absurd (cc)
     at (Some h) s =
         (ap (take d.made) (map-set lives d.threads t (record { lives = false; told = Some clock })) ∙ take_set_any d.made (map lives d.threads) t false, refl)
-
--- an event makes the slots hear of no more threads than it tells to be made
-pub made_after : (d : DeskContents) (t : ℕ) (clock : List ℕ) (e : Event) → (desk_after d t clock e).made ≤ d.made + made_by e
-made_after d t clock (events.Create child) = at (is_full d)
-  where
-    at : (b : Bool) → (cond b d (more d clock)).made ≤ d.made + 1
-    at true = omega arith
-    at false = omega arith
-made_after d t clock events.End = at (held_of d t)
-  where
-    at : (o : Option (ℕ × ℕ)) → (left_by d t clock o).made ≤ d.made + 0
-    at None = omega arith
-    at (Some h) = omega arith
-made_after d t clock _ = omega arith
 
 -- ---- the events of an instruction
 
@@ -206,7 +191,7 @@ module _ (file : List ℕ) (k t : ℕ) (loads : Loads) (css : List (List Check))
   creation_follows pc argument stack true q = none_follows _ q refl refl refl
   creation_follows pc argument stack false q =
       let other : (length m.made == effects.full) ≡ false =
-          ne_eqb (length m.made) effects.full (λ e. let z = follows.made_is in omega (arith, few, z, e)) in
+      ne_eqb (length m.made) effects.full (λ e. let z = follows.made_is in omega (arith, few, z, e)) in
       create_follows _ (new_thread pc argument stack) q
       (ap (λ (b : Bool). first_events x ++ cond b [] (events.Create (length m.made) ∷ [])) other) refl refl
 

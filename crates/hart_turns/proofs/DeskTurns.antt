@@ -1,6 +1,6 @@
 -- An instruction that is made at the desk.
 use Rattle.std.specs.Global.{Box}
-use Rattle.std.proofs.Common.{◌≡◌, ◌≤◌, ℕ, Bool, Option, Some, None, List, [], length, map, refl, ap, ap₂, sym, subst, ◌∙◌, arith}
+use Rattle.std.proofs.Common.{◌≡◌, ℕ, Bool, Option, Some, None, List, [], map, refl, ap, ap₂, sym, subst, ◌∙◌, arith}
 use Rattle.run_record.specs.declared.entry.Check.{Check}
 use Rattle.run_record.specs.declared.entry.Label.{Label}
 use Rattle.run_record.specs.declared.event.Event.{Event}
@@ -12,7 +12,7 @@ use Rattle.bare_machine.specs.declared.request.Request.TheVariants as kinds
 use Rattle.bare_machine.specs.Asked.{asked}
 use Rattle.bare_machine.specs.Requests.{object_of, request}
 use Rattle.bare_machine.specs.Step.{desk}
-use Rattle.place_turns.specs.Places.{Value, IsAt}
+use Rattle.place_turns.specs.Places.{IsAt}
 use Rattle.place_turns.specs.Turns.{served}
 use Rattle.slot_desk.specs.Desks.{DeskContents, lives_of}
 use Rattle.sync_slab.specs.Objects.{SyncObjects}
@@ -26,7 +26,7 @@ use Rattle.shared_table.specs.declared.object.DeskState.{DeskState}
 use Rattle.shared_table.specs.declared.view.Layout.{Layout}
 use Rattle.shared_table.specs.Past.{IsDeskOf, HasThreads, IsSoundSlot}
 use Rattle.shared_table.specs.Steps.{Mine}
-use Rattle.table_deeds.specs.Objects.{part_in, held_in, last_in}
+use Rattle.table_deeds.specs.Objects.{held_in, last_in}
 use Rattle.hart_steps.specs.declared.hart.Hart.{Hart}
 use Rattle.hart_steps.specs.Asked.{Asks, UsesDesk}
 use Rattle.hart_steps.specs.Harts.{turn, leaves, local_of}
@@ -37,7 +37,7 @@ use Rattle.placed_detector.specs.Instructions.{HearsEvents}
 use Rattle.hart_turns.specs.Hearing.{at_rest}
 use Rattle.hart_turns.specs.Places.{IsPlace, SameBare}
 use Rattle.hart_turns.specs.Instructions.{loads_of, given_after_all, AreGivenAs, HearsAll}
-use Rattle.hart_turns.specs.Serves.{ServedAtDesk, HasAsked}
+use Rattle.hart_turns.specs.Serves.{ServedAtDesk}
 use Rattle.hart_turns.specs.Makes.{hand_at, made_of}
 use Rattle.hart_turns.specs.AtDesk.{MayUse, IsLoose, IsWhole, ServedInDesk, HeardAtDesk, MakesAtDesk}
 use Rattle.hart_turns.proofs.DeskThreads.{Follows, desk_follows}
@@ -155,20 +155,20 @@ module _ (file : List ℕ) (limits : Limits) (lay : Layout) (t : ℕ) (clock : L
       sound = sound_of lay limits (Some (Desk d2)) same whole;
     }
 
-  made_of : (place served place' : Option Object) → IsWhole limits place → ServedInDesk limits.harts t r h left place served es → IsWhole limits place' →
+  made_from : (place served place' : Option Object) → IsWhole limits place → ServedInDesk limits.harts t r h left place served es → IsWhole limits place' →
       HearsAll file limits desk t clock es base w w' served place' before after waited waiting old new spent →
       MakesAtDesk file limits lay t clock base r h left w w' place place' es before after waited waiting old new spent
-  made_of (Some (Desk d)) (Some (Desk d1)) (Some (Desk d2)) found is whole hears = made_whole d d1 d2 found.1 is.0 is.1 hears whole
-  made_of (Some (Desk d)) (Some (Desk d1)) (Some (Stripe s)) found is whole hears = absurd hears.bare
-  made_of (Some (Desk d)) (Some (Desk d1)) None found is whole hears = absurd hears.bare
-  made_of (Some (Desk d)) (Some (Stripe s)) place' found is whole hears = absurd is
-  made_of (Some (Desk d)) None place' found is whole hears = absurd is
-  made_of (Some (Stripe s)) served place' found is whole hears = absurd found
-  made_of None served place' found is whole hears = absurd found
+  made_from (Some (Desk d)) (Some (Desk d1)) (Some (Desk d2)) found is whole hears = made_whole d d1 d2 found.1 is.0 is.1 hears whole
+  made_from (Some (Desk d)) (Some (Desk d1)) (Some (Stripe s)) found is whole hears = absurd hears.bare
+  made_from (Some (Desk d)) (Some (Desk d1)) None found is whole hears = absurd hears.bare
+  made_from (Some (Desk d)) (Some (Stripe s)) place' found is whole hears = absurd is
+  made_from (Some (Desk d)) None place' found is whole hears = absurd is
+  made_from (Some (Stripe s)) served place' found is whole hears = absurd found
+  made_from None served place' found is whole hears = absurd found
 
   -- where nothing had to be settled then
   pub made_at_desk : (place place' settled : Option Object) → settled ≡ place' → IsWhole limits place → IsWhole limits settled →
       HeardAtDesk file limits t clock base r h left w w' place place' es before after waited waiting old new spent →
       MakesAtDesk file limits lay t clock base r h left w w' place settled es before after waited waiting old new spent
-  made_at_desk place place' settled kept found whole heard = made_of place heard.served settled found heard.serves whole
+  made_at_desk place place' settled kept found whole heard = made_from place heard.served settled found heard.serves whole
       (subst (λ (o : Option Object). HearsAll file limits desk t clock es base w w' heard.served o before after waited waiting old new spent) (sym kept) heard.hears)

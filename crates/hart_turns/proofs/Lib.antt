@@ -7,5 +7,3 @@ pub mod Serving
 pub mod AtStripes
 pub mod DeskThreads
 pub mod DeskTurns
-pub mod UnheardThreads
-pub mod Kept

@@ -1,5 +1,5 @@
 -- An instruction that is made at the desk.
-use Rattle.std.specs.Prelude.{◌≡◌, ℕ, List, map, Option, Some, None, IsSome}
+use Rattle.std.specs.Prelude.{◌≡◌, ℕ, List, map, Option, Some, IsSome}
 use Rattle.run_record.specs.declared.entry.Check.{Check}
 use Rattle.run_record.specs.declared.entry.Label.{Label}
 use Rattle.run_record.specs.declared.event.Event.{Event}
@@ -12,7 +12,7 @@ use Rattle.race_core.specs.declared.watcher.Candidate.{Candidate}
 use Rattle.detector.specs.Stands.{awaited}
 use Rattle.slot_desk.specs.Desks.{DeskContents, held_of}
 use Rattle.shared_table.specs.declared.object.Object.{Object}
-use Rattle.shared_table.specs.declared.object.Object.TheVariants.{Stripe as InStripe, Desk as InDesk}
+use Rattle.shared_table.specs.declared.object.Object.TheVariants.{Desk as InDesk}
 use Rattle.shared_table.specs.declared.view.Layout.{Layout}
 use Rattle.shared_table.specs.Past.{IsDeskOf, HasThreads, IsSoundSlot}
 use Rattle.shared_table.specs.Steps.{Mine}

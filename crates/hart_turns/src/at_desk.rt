@@ -143,7 +143,8 @@ pub fn make_at_desk(
     ensures sound { IsSoundSlot shared.now.layout 64 place.new }
 {
     let heard = serve_and_hear(
-        shared, seat, image, limits, tid, hart, watcher, given, request, place, events, base, findings,
+        shared, seat, image, limits, tid, hart, watcher, given, request, place, events, base,
+        findings,
     );
     if settle(place, limits) {
         return heard;

@@ -16,9 +16,9 @@ use crate::check::Findings;
 use crate::hear::{
     Hearing, hear_access, hear_at_stripe, hear_begin, hear_desk, hear_own, is_ready,
 };
+use crate::unheard::has_unheard;
 use elf_image::Image;
 use race_core::Watcher;
-use crate::unheard::has_unheard;
 use run_record::{Event, Limits, NoMemory};
 use shared_table::{DeskState, Object, Shared, SharedSeat};
 use vector_clock::Clock;

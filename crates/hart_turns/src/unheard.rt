@@ -30,8 +30,10 @@ fn forget_unheard(desk: &mut DeskState, alloc: Global)
     ensures threads { HasThreads desk.new }
     ensures desk { desk.new.desk ≡ desk.old.desk }
 {
-    let mut made: Vec<Thread> =
-        std::mem::replace(&mut desk.machine.made, Items::new(alloc)).into_vec();
+    let mut made: Vec<Thread> = std::mem::replace(
+        &mut desk.machine.made,
+        Items::new(alloc),
+    ).into_vec();
     while has_unheard(&desk.desk, made.len()) {
         let _last = made.pop();
     }
