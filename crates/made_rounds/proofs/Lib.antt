@@ -1,0 +1,12 @@
+pub mod Pasts
+pub mod Items
+pub mod Reached
+pub mod Step
+pub mod Walk
+pub mod First
+pub mod Found
+pub mod More
+pub mod Run
+pub mod Told
+pub mod Desk
+pub mod Distinct
