@@ -30,6 +30,11 @@ homes_set hs m k n g g' l here other was j b = dite (ℕ_discrete j k)
     (λ e. ap (λ (z : ℕ). get_elem? (set hs (slot_place k) n) (slot_place z)) e ∙ (set_here hs (slot_place k) n l ∙ ap some (sym here ∙ ap g' (sym e))))
     (λ o. set_else hs (slot_place k) (slot_place j) n (λ e. o (omega arith)) ∙ (was j b ∙ ap some (sym (other j o))))
 
+-- who has the open turn of an object found what the last turn left
+found_by : (lay : Layout) (past : Past) (n : ℕ) (h : Option Held) → HasTurn lay past n h → FoundLast lay past h
+found_by lay past n None t = tt
+found_by lay past n (Some h) t = ap (λ (z : Turns). z.value) t.0
+
 abbrev first_value : List (ℕ × Slot) → Slot
 first_value [] = None
 first_value (x ∷ xs) = x.1

@@ -1,19 +1,48 @@
 -- What the seats of a round add up to.
-use Rattle.std.proofs.Common.{◌≡◌, ℕ, zero, suc, ◌+◌, ◌-◌, ◌<◌, ◌≤◌, List, [], ◌∷◌, ◌++◌, map, length, take, drop, get_or, set, Option, None, Some, All, refl, sym, ap, ◌∙◌, subst, arith, append-nil, length-append, length-set}
+use Rattle.std.proofs.Common.{◌≡◌, ℕ, zero, suc, ◌+◌, ◌-◌, ◌<◌, ◌≤◌, List, [], ◌∷◌, ◌++◌, map, length, take, drop, get_or, set, Option, None, Some, All, refl, sym, ap, ◌∙◌, subst, arith, append-nil, append_assoc, length-append, length-set}
 use mathlib.Core.Logic.{dite}
 use mathlib.Core.Option.{some}
 use native.Mathlib.Decide.{ℕ_discrete}
 use lib.ListN.{get_elem?}
 use Rattle.atomic_table.proofs.Lists.{set_here, set_else}
 use Rattle.atomic_table.specs.declared.shared.Seat.{Seat}
+use Rattle.shared_table.specs.declared.view.Item.TheVariants.{Split, Join}
 use Rattle.shared_table.specs.declared.view.View.{View}
 use Rattle.shared_table.specs.declared.workers.Part.{Part}
 use Rattle.shared_table.specs.Layouts.{SharedTable}
 use Rattle.shared_table.specs.Past.{Slot, Log}
 use Rattle.shared_table.specs.Steps.{Mine, new_seat}
 use Rattle.shared_table.specs.Seats.{IsSeatOf, IsFree, IsOpener}
-use Rattle.shared_table.specs.Rounds.{worker_of, log, number, AreOpened, AreReady, Ran, AreBack, Grown, HasLogs, HasRound}
+use Rattle.shared_table.specs.Rounds.{splits_from, joins_from, worker_of, log, number, AreOpened, AreReady, Ran, AreBack, Grown, HasLogs, HasRound}
 use Rattle.shared_table.proofs.Rows.{each_more, at_front, some_at}
+
+-- one seat more is made behind so many, and joined
+splits_snoc : (n k : ℕ) → splits_from n (suc k) ≡ splits_from n k ++ Split (n + k) ∷ []
+splits_snoc n zero = ap (λ (z : ℕ). Split z ∷ []) (omega arith)
+splits_snoc n (suc k) =
+    let up : n + 1 + k ≡ n + suc k = omega arith in
+    ap (λ (l : Log). Split n ∷ l) (splits_snoc (n + 1) k ∙ ap (λ (z : ℕ). splits_from (n + 1) k ++ Split z ∷ []) up)
+
+joins_snoc : (n k : ℕ) → joins_from n (suc k) ≡ joins_from n k ++ Join (n + k) ∷ []
+joins_snoc n zero = ap (λ (z : ℕ). Join z ∷ []) (omega arith)
+joins_snoc n (suc k) =
+    let up : n + 1 + k ≡ n + suc k = omega arith in
+    ap (λ (l : Log). Join n ∷ l) (joins_snoc (n + 1) k ∙ ap (λ (z : ℕ). joins_from (n + 1) k ++ Join z ∷ []) up)
+
+-- the opening seat's log goes on by that item
+pub splits_more : (n k made count : ℕ) (first old new : Log) → old ≡ first ++ splits_from n k → new ≡ old ++ Split made ∷ [] → made ≡ n + k → count ≡ k + 1 →
+    new ≡ first ++ splits_from n count
+splits_more n k made count first old new was now is more =
+    let up : suc k ≡ count = omega arith in
+    now ∙ (ap (λ (l : Log). l ++ Split made ∷ []) was ∙ (append_assoc first (splits_from n k) (Split made ∷ []) ∙ ap (λ (l : Log). first ++ l)
+    (ap (λ (z : ℕ). splits_from n k ++ Split z ∷ []) is ∙ (sym (splits_snoc n k) ∙ ap (splits_from n) up))))
+
+pub joins_more : (n k made count : ℕ) (first old new : Log) → old ≡ first ++ joins_from n k → new ≡ old ++ Join made ∷ [] → made ≡ n + k → count ≡ k + 1 →
+    new ≡ first ++ joins_from n count
+joins_more n k made count first old new was now is more =
+    let up : suc k ≡ count = omega arith in
+    now ∙ (ap (λ (l : Log). l ++ Join made ∷ []) was ∙ (append_assoc first (joins_from n k) (Join made ∷ []) ∙ ap (λ (l : Log). first ++ l)
+    (ap (λ (z : ℕ). joins_from n k ++ Join z ∷ []) is ∙ (sym (joins_snoc n k) ∙ ap (joins_from n) up))))
 
 -- a seat that only gets one more item or log holds as much as before
 pub still_opener : (t : SharedTable) (before after : Seat Slot View) (v : View) → IsOpener t before → IsSeatOf t after → after.me ≡ (v, before.me.1) → v.held ≡ before.me.0.held → v.number ≡ before.me.0.number → IsOpener t after

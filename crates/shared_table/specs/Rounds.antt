@@ -1,12 +1,23 @@
 -- What a round of workers leaves.
-use Rattle.std.specs.Prelude.{◌≡◌, ℕ, ◌+◌, ◌<◌, List, [], map, length, slice_index_or, Some}
+use Rattle.std.specs.Prelude.{◌≡◌, ℕ, zero, suc, ◌+◌, ◌<◌, List, [], ◌∷◌, map, length, slice_index_or, Some}
 use mathlib.Core.Option.{some}
 use lib.ListN.{get_elem?}
 use Rattle.shared_table.specs.declared.view.View.{View}
+use Rattle.shared_table.specs.declared.view.Item.TheVariants.{Split, Join}
 use Rattle.shared_table.specs.declared.workers.Part.{Part}
 use Rattle.shared_table.specs.Layouts.{SharedTable}
 use Rattle.shared_table.specs.Past.{Log}
 use Rattle.shared_table.specs.Seats.{IsSeatOf, IsFree}
+
+-- so many seats are made, from that number on
+abbrev pub splits_from : ℕ → ℕ → Log
+splits_from n zero = []
+splits_from n (suc k) = Split n ∷ splits_from (n + 1) k
+
+-- and joined
+abbrev pub joins_from : ℕ → ℕ → Log
+joins_from n zero = []
+joins_from n (suc k) = Join n ∷ joins_from (n + 1) k
 
 -- n more seats were made, and the logs that were there stay
 abbrev pub Grown : ℕ → View → View → Type 0

@@ -1,10 +1,10 @@
 // Rounds of workers over a table.
-ghost use Rattle.std.specs.Prelude.{◌≡◌, ℕ, ◌+◌, ◌-◌, ◌<◌, ◌≤◌, [], length, map, vec_len, vec_capacity, All, IfOk, OnOk, OnErr};
+ghost use Rattle.std.specs.Prelude.{◌≡◌, ℕ, ◌+◌, ◌-◌, ◌<◌, ◌≤◌, ◌++◌, [], length, map, vec_len, vec_capacity, All, IfOk, OnOk, OnErr};
 ghost use Rattle.shared_table.specs.Layouts.{SharedTable};
 ghost use Rattle.shared_table.specs.Past.{Log};
 ghost use Rattle.shared_table.specs.Steps.{Told};
 ghost use Rattle.shared_table.specs.Seats.{IsSeatOf, IsFree, IsOpener};
-ghost use Rattle.shared_table.specs.Rounds.{worker_of, IsReady, Did, AreOpened, AreReady, Ran, AreBack, Grown, HasLogs, HasRound};
+ghost use Rattle.shared_table.specs.Rounds.{splits_from, joins_from, worker_of, IsReady, Did, AreOpened, AreReady, Ran, AreBack, Grown, HasLogs, HasRound};
 
 use crate::plays::SharedSeat;
 use crate::shared::Shared;
@@ -59,6 +59,7 @@ fn open<W: Drop>(
     requires room { (vec_len parts ≡ 0) × (vec_len workers ≤ vec_capacity parts) }
     ensures opener { IsOpener shared.now seat.new }
     ensures logs { Grown (vec_len workers) seat.old.me.0 seat.new.me.0 }
+    ensures own { seat.new.me.0.log ≡ seat.old.me.0.log ++ splits_from (length seat.old.me.0.logs) (vec_len workers) }
     ensures parts { AreOpened shared.now (length seat.old.me.0.logs) workers.items result.items }
 {
     for worker in workers {
@@ -104,6 +105,8 @@ fn join_all<W: Drop>(
     requires parts { (vec_len parts ≤ length seat.old.me.0.logs) × AreBack shared.now (length seat.old.me.0.logs - vec_len parts) parts.items }
     ensures opener { IsOpener shared.now seat.new }
     ensures workers { result.items ≡ map worker_of parts.items }
+    ensures own { seat.new.me.0.log ≡ seat.old.me.0.log
+        ++ joins_from (length seat.old.me.0.logs - vec_len parts) (vec_len parts) }
     ensures logs { HasLogs (length seat.old.me.0.logs - vec_len parts) parts.items seat.old.me.0 seat.new.me.0 }
 {
     for part in parts {
@@ -129,8 +132,8 @@ pub fn useful_threads<R: Threads>(rt: &R) -> usize
 }
 
 /// A round: each worker does its part with a new seat, on so many threads of the host at most. Parts of one
-/// thread follow one another; so do all where no thread can be started. The opening seat has all logs
-/// afterwards. After an error nothing was made, and the workers are lost.
+/// thread follow one another; so do all where no thread can be started. The opening seat makes all seats, and then joins them
+/// in the same order; it has all logs afterwards. After an error nothing was made, and the workers are lost.
 pub fn round<R: Threads + Wait + Sync, W: Worker + Send + Drop>(
     rt: &R,
     alloc: Global,
@@ -145,6 +148,8 @@ pub fn round<R: Threads + Wait + Sync, W: Worker + Send + Drop>(
     ensures opener { IsOpener shared.now seat.new }
     ensures err { OnErr result (seat.new.me ≡ seat.old.me) }
     ensures round { IfOk result (λ after. HasRound W.works shared.now seat.old.me.0 seat.new.me.0 workers.items after.items) }
+    ensures own { OnOk result (seat.new.me.0.log ≡ seat.old.me.0.log ++ (splits_from (length seat.old.me.0.logs) (length workers.items)
+        ++ joins_from (length seat.old.me.0.logs) (length workers.items))) }
     ensures told { OnOk result (Told seat.new.me.0) }
 {
     let count = workers.len();

@@ -1,9 +1,9 @@
-use Rattle.std.proofs.Common.{rules, arith, ◌≡◌, ℕ, ◌+◌, ◌-◌, ◌∷◌, ◌++◌, [], List, map, take, drop, length, sym, ap, ◌∙◌, subst, refl, length-append, vec_len}
+use Rattle.std.proofs.Common.{rules, arith, ◌≡◌, ℕ, ◌+◌, ◌-◌, ◌∷◌, ◌++◌, [], List, map, take, drop, length, sym, ap, ◌∙◌, subst, refl, append-nil, length-append, vec_len}
 use Rattle.std.specs.Vec.Iter.{into_iter_items}
 use Rattle.shared_table.specs.declared.workers.Part.{Part}
 use Rattle.shared_table.specs.Steps.{Mine}
-use Rattle.shared_table.specs.Rounds.{worker_of, number}
-use Rattle.shared_table.proofs.Rounding.{no_items, still_opener, drop_step, drop_none, take_all, map_snoc, logs_more}
+use Rattle.shared_table.specs.Rounds.{joins_from, worker_of, number}
+use Rattle.shared_table.proofs.Rounding.{no_items, joins_more, still_opener, drop_step, drop_none, take_all, map_snoc, logs_more}
 use Rattle.shared_table.proofs.workers.join_all.Goals as goal
 
 pub loop-part-init : goal.loop-part-init
@@ -16,6 +16,7 @@ loop-part-init g c =
       room = c.requires.room.1;
       rest = c.into_iter-part-iterator.ensures.into_iter_gives.0 ∙ ap (λ (n : ℕ). drop n c.args.parts.items) (sym none);
       workers = empty ∙ ap (λ (n : ℕ). map worker_of (take n c.args.parts.items)) (sym none);
+      own = sym (append-nil c.args.seat.now.me.0.log) ∙ ap (λ (n : ℕ). c.args.seat.now.me.0.log ++ joins_from (length c.args.seat.now.me.0.logs - vec_len c.args.parts) n) (sym none);
       len = refl;
       old = λ i l. refl;
       done = λ i d l. absurd (omega arith);
@@ -56,6 +57,7 @@ loop-part-preserved g c =
       room = search rules;
       rest = sym step.2 ∙ ap (λ (n : ℕ). drop n ps) (sym count);
       workers = pushed ∙ (ap (λ (l : List g.row.W.Denot). l ++ p.worker ∷ []) inv.workers ∙ (sym (map_snoc (take i ps) p) ∙ (ap (λ (l : List (Part g.row.W.Denot)). map worker_of l) (sym step.3) ∙ ap (λ (n : ℕ). map worker_of (take n ps)) (sym count))));
+      own = joins_more m i (number p) (length c.push_reserved.new.self.items) _ _ _ inv.own (ap (λ (z : Mine). z.0.log) e) num count;
       len = more.0;
       old = more.1;
       done = λ k d l. more.2 k d (omega arith);
@@ -71,5 +73,6 @@ returns g c =
     record {
       opener = inv.opener;
       workers = inv.workers ∙ ap (λ (l : List (Part g.row.W.Denot)). map worker_of l) (take_all ps i all);
+      own = inv.own ∙ ap (λ (n : ℕ). c.args.seat.now.me.0.log ++ joins_from (length c.args.seat.now.me.0.logs - vec_len c.args.parts) n) (all ∙ search rules);
       logs = (inv.len, inv.old, λ k d l. inv.done k d (omega arith));
     }

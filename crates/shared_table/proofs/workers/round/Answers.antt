@@ -1,7 +1,8 @@
-use Rattle.std.proofs.Common.{rules, arith, ◌≡◌, ◌-◌, ℕ, List, length, ap, subst, vec_len, sym, ◌∙◌}
+use Rattle.std.proofs.Common.{rules, arith, ◌≡◌, ◌-◌, ◌++◌, ℕ, List, length, append_assoc, ap, subst, vec_len, sym, ◌∙◌}
 use Rattle.shared_table.specs.declared.workers.Part.{Part}
+use Rattle.shared_table.specs.Past.{Log}
 use Rattle.shared_table.specs.Steps.{Mine}
-use Rattle.shared_table.specs.Rounds.{AreBack, Grown, HasLogs}
+use Rattle.shared_table.specs.Rounds.{splits_from, joins_from, AreBack, Grown, HasLogs}
 use Rattle.shared_table.proofs.Rounding.{as_many, all_ready, all_back, has_round}
 use Rattle.shared_table.proofs.workers.round.Goals as goal
 
@@ -42,3 +43,24 @@ returns-clause-round g c =
     let all : vec_len c.args.workers ≡ length c.args.workers.items = search rules in
     has_round _ _ v w x c.learn.new.seat.me.0 _ _ ps qs (subst (λ (n : ℕ). Grown n v w) all c.open-opened.ensures.logs) c.open-opened.ensures.parts c.run-done.ensures.ran same
     (subst (λ (n : ℕ). HasLogs (length w.logs - n) qs w x) size c.join_all-after.ensures.logs) c.join_all-after.ensures.workers (ap (λ (m : Mine). m.0.logs) c.learn.ensures.same)
+
+pub returns-clause-own : goal.returns-clause-own
+returns-clause-own g c =
+    let ps : List (Part g.row.W.Denot) = c.open-opened.result.items in
+    let qs : List (Part g.row.W.Denot) = c.run-done.result.items in
+    let v = c.args.seat.now.me.0 in
+    let opened = c.open-opened.ensures.parts in
+    let same : length qs ≡ length ps = search rules in
+    let size : vec_len c.run-done.result ≡ length qs = search rules in
+    let all : vec_len c.args.workers ≡ length c.args.workers.items = search rules in
+    let count : length ps ≡ length c.args.workers.items = sym (as_many ps) ∙ ap (λ (l : List g.row.W.Denot). length l) opened.workers_are in
+    let grown = c.open-opened.ensures.logs.0 in
+    let first : length c.open-opened.new.seat.me.0.logs - vec_len c.run-done.result ≡ length v.logs = omega arith in
+    let joined : vec_len c.run-done.result ≡ length c.args.workers.items = size ∙ (same ∙ count) in
+    ap (λ (m : Mine). m.0.log) c.learn.ensures.same
+    ∙ (c.join_all-after.ensures.own
+    ∙ (ap (λ (l : Log). l ++ joins_from (length c.open-opened.new.seat.me.0.logs - vec_len c.run-done.result) (vec_len c.run-done.result)) c.open-opened.ensures.own
+    ∙ (append_assoc v.log (splits_from (length v.logs) (vec_len c.args.workers)) (joins_from (length c.open-opened.new.seat.me.0.logs - vec_len c.run-done.result) (vec_len c.run-done.result)) ∙ ap (λ (l : Log). v.log ++ l)
+    (ap (λ (n : ℕ). splits_from (length v.logs) n ++ joins_from (length c.open-opened.new.seat.me.0.logs - vec_len c.run-done.result) (vec_len c.run-done.result)) all
+    ∙ (ap (λ (n : ℕ). splits_from (length v.logs) (length c.args.workers.items) ++ joins_from n (vec_len c.run-done.result)) first
+    ∙ ap (λ (n : ℕ). splits_from (length v.logs) (length c.args.workers.items) ++ joins_from (length v.logs) n) joined)))))
