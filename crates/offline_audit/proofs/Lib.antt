@@ -1,0 +1,4 @@
+pub mod KnowledgeLaw
+pub mod Entries
+pub mod StepLaws
+pub mod StandsLaw

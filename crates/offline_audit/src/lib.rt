@@ -1,0 +1,6 @@
+//! All races of a recorded run, whatever the shadow cells forgot.
+#![tactic(auto)]
+
+mod clock;
+mod heard;
+mod known;
