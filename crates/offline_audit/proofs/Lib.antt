@@ -2,3 +2,4 @@ pub mod KnowledgeLaw
 pub mod Entries
 pub mod StepLaws
 pub mod StandsLaw
+pub mod OrderLaws

@@ -31,7 +31,7 @@ empties_by (Given c) t w = refl
 empties_by (Ended c) t w = refl
 
 module _ (h : ℕ → Item) (number : ℕ → ℕ) (nums : AreNumbers h number) where
-  number-le : (i n : ℕ) → i ≤ n → number i ≤ number n
+  pub number-le : (i n : ℕ) → i ≤ n → number i ≤ number n
   number-le i zero l = let e : i ≡ 0 = omega arith in rw e (omega arith)
   number-le i (suc n) l =
       elim (cases_eq i (suc n)) [

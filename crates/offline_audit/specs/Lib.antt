@@ -1,3 +1,4 @@
 pub mod Knowledge
 pub mod Heard
 pub mod Known
+pub mod Orders

@@ -4,3 +4,6 @@
 mod clock;
 mod heard;
 mod known;
+mod order;
+
+pub use order::{EventName, Order};

@@ -44,5 +44,5 @@ parts-preserved c =
     let same = same_watcher _ _ _ _ _ _ _ _ _ _ half in
     let labelled = ap (λ (w : Watched). w.label) same ∙ c.requires.going.labelled in
     let turn_is = ap (λ (n : ℕ). n % 4) (c.count.ensures ∙ ap (λ (t : HeldTrace). t.count) (c.trace.ensures ∙ ap (λ (w : Watched). w.trace) c.watcher-watcher.ensures)) in
-    rw (c.in_ok-push.ensures.ok, c.first_of-raced.ensures) (half_step _ _ _ _ _ _ _ _ _ _ _ _ _ _ c.check-found.result.0 c.requires.going.label half next c.requires.going c.requires.going.labelled next.few_bits turn_is
+    rw (c.in_ok-push.ensures.ok, c.first_raced-raced.ensures) (half_step _ _ _ _ _ _ _ _ _ _ _ _ _ _ c.check-found.result.0 c.requires.going.label half next c.requires.going c.requires.going.labelled next.few_bits turn_is
     (c.check-found.ensures.check half.access c.requires.going.label half.is_access labelled) c.check-found.ensures.stored (rw same at c.check-found.ensures.raced))
