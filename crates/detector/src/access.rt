@@ -126,7 +126,8 @@ impl Detector {
             event,
             raced,
             &mut self.waiting,
-        )
+        )?;
+        Ok(())
     }
 
     // The thread's stack, locks and trace go on by the event.

@@ -3,3 +3,4 @@ pub mod Entries
 pub mod StepLaws
 pub mod StandsLaw
 pub mod OrderLaws
+pub mod MomentPlaces

@@ -1,9 +1,9 @@
 -- What an order tells of two events.
-use Rattle.std.proofs.Common.{◌≡◌, ℕ, zero, suc, ◌+◌, ◌<◌, ◌≤◌, ◌↔◌, Bool, true, List, length, refl, sym, ap, ◌∙◌, subst, inl, inr, arith, leb, Some}
-use Rattle.std.specs.Prelude.{slice_index_or, slice_get, ◌-◌}
+use Rattle.std.proofs.Common.{◌≡◌, ℕ, zero, suc, ◌+◌, ◌<◌, ◌≤◌, ◌↔◌, Bool, true, List, length, refl, sym, ap, ◌∙◌, subst, inl, inr, arith, leb, Option, Some, None, nat_lt, false}
+use Rattle.std.specs.Prelude.{IsTrue, slice_index_or, slice_get, ◌-◌}
 use Rattle.std.specs.List.{All, Contains, AllWithin}
 use Rattle.std.specs.List.Sorted.{IsNonDecreasingBy}
-use Rattle.std.proofs.lemmas.Bool.{cases_eq, cases_lt}
+use Rattle.std.proofs.lemmas.Bool.{cases_eq, cases_lt, lt-ltb}
 use Rattle.std.proofs.lemmas.List.{get_or_default}
 use Rattle.run_record.specs.declared.event.Event.{Event}
 use Rattle.run_record.specs.declared.entry.Entry.{Entry}
@@ -56,6 +56,18 @@ last_by steps at n x rising l early later =
           ],
     )
 
+pub is_less : (x y : ℕ) → IsTrue (nat_lt x y) ↔ (x < y)
+is_less x y = (λ t. grind arith, λ l. lt-ltb x y l)
+
+abbrev found : ℕ → ℕ → Option (ℕ × ℕ)
+found tid number = Some (tid, number)
+
+pair_first : (a b c d : ℕ) → found a b ≡ found c d → a ≡ c
+pair_first a b c d e = ap (λ (o : Option (ℕ × ℕ)). (elim o [ None ↦ 0 | Some p ↦ p.0 ])) e
+
+pair_second : (a b c d : ℕ) → found a b ≡ found c d → b ≡ d
+pair_second a b c d e = ap (λ (o : Option (ℕ × ℕ)). (elim o [ None ↦ 0 | Some p ↦ p.1 ])) e
+
 module _ (h : ℕ → Item) (entries : List Entry) (o : Order) (tells : TellsOrder h entries o) (i j t u : ℕ) (v w : Event) (isI : h i ≡ Does t v) (isJ : h j ≡ Does u w) where
   -- of one thread
   pub same_thread : t ≡ u → (tells.number i < tells.number j) ↔ HappensBefore h i j
@@ -76,3 +88,27 @@ module _ (h : ℕ → Item) (entries : List Entry) (o : Order) (tells : TellsOrd
       let a = known heard.rising (tells.number i) in
       let b = heard.before j i w v (tells.within j u w isJ) isJ isI in
       (λ l. b.1 (a.0 l), λ p. a.1 (b.0 p))
+
+  pub one_told : (tid number other at : ℕ) → found tid number ≡ found t (tells.number i) → found other at ≡ found u (tells.number j) → tid ≡ other →
+      IsTrue (nat_lt number at) ↔ HappensBefore h i j
+  one_told tid number other at e f q =
+      let a = is_less number at in
+      let b = same_thread (sym (pair_first tid number t (tells.number i) e) ∙ (q ∙ pair_first other at u (tells.number j) f)) in
+      let x = pair_second tid number t (tells.number i) e in
+      let y = pair_second other at u (tells.number j) f in
+      (λ l. b.0 (let m = a.0 l in omega arith), λ p. a.1 (let m = b.1 p in omega arith))
+
+  pub two_told : (tid number other at x : ℕ) → found tid number ≡ found t (tells.number i) → found other at ≡ found u (tells.number j) → (tid ≡ other → ⊥) →
+      (AreRising (steps_between o.threads other tid) → (y : ℕ) → (y < x) ↔ TellBy (steps_between o.threads other tid) at y) →
+      IsTrue (nat_lt number x) ↔ HappensBefore h i j
+  two_told tid number other at x e f d known =
+      let p = pair_first tid number t (tells.number i) e in
+      let q = pair_first other at u (tells.number j) f in
+      let r = pair_second tid number t (tells.number i) e in
+      let z = pair_second other at u (tells.number j) f in
+      let b = two_threads (λ g. d (p ∙ (g ∙ sym q))) x (rw (p, q, z) at known) in
+      let a = is_less number x in
+      (λ l. b.0 (let m = a.0 l in omega arith), λ s. a.1 (let m = b.1 s in omega arith))
+
+  pub none_told : (o : Option (ℕ × ℕ)) (x : ℕ × ℕ) → o ≡ Some x → o ≡ None → IsTrue false ↔ HappensBefore h i j
+  none_told o x e f = absurd (let g = sym e ∙ f in cc)

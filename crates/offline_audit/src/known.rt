@@ -1,5 +1,5 @@
 // What all threads know, and what is left for others, after the events so far.
-ghost use Rattle.std.specs.Prelude.{◌≡◌, ◌<◌, ◌+◌, ◌^◌, ◌==◌, ℕ, if◌then◌else◌, max, OnOk};
+ghost use Rattle.std.specs.Prelude.{◌≡◌, ◌<◌, ◌+◌, ◌^◌, ◌==◌, ℕ, [], if◌then◌else◌, max, OnOk};
 ghost use Rattle.run_laws.specs.HappensBefore.{ends_channel};
 ghost use Rattle.run_laws.specs.Clocks.{Place, taken_from, left_at, is_place};
 ghost use Rattle.offline_audit.specs.Heard.{latest, steps_after};
@@ -31,6 +31,24 @@ pub(crate) struct Known {
     pub(crate) main: Clocks,
     /// For the acquires of an address's channel of readers.
     pub(crate) readers: Clocks,
+}
+
+impl Known {
+    /// Before the first event nothing is known.
+    pub(crate) fn new(alloc: Global) -> Known
+        ensures count { result.count ≡ 0 }
+        ensures steps { (v u : ℕ) → steps_between result.threads v u ≡ [] }
+        ensures places { (y : Place) (u : ℕ) → told result y u ≡ 0 }
+    {
+        Known {
+            count: 0,
+            threads: Threads::new(alloc),
+            created: Clocks::new(alloc),
+            ended: Clocks::new(alloc),
+            main: Clocks::new(alloc),
+            readers: Clocks::new(alloc),
+        }
+    }
 }
 
 /// By its event of the number `at` the thread hears all that the clock at the key tells of others.

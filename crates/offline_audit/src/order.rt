@@ -87,6 +87,34 @@ fn heard_of(threads: &Threads, tid: u32, other: u32, at: u64) -> u64
 }
 
 impl Order {
+    /// The order of a history. It needn't be that of a run.
+    pub fn new(alloc: Global, history: &Record) -> Result<Order, NoMemory>
+        requires entries { length history.now.entries < 2 ^ 32 }
+        requires events { All (λ e. length e.events < 2 ^ 32) history.now.entries }
+        ensures { IfOk result (IsOrderOf history.now.entries) }
+    {
+        let mut rows = Vec::new(alloc);
+        let mut known = Known::new(alloc);
+        let entries = history.entries.to_vec(alloc)?;
+        for entry in &entries {
+            rows.push(Row {
+                tid: entry.tid,
+                first: known.count,
+            })?;
+            note_entry(alloc, &mut known, entry)?;
+        }
+        let Known { threads, .. } = known;
+        Ok(Order { rows, threads })
+    }
+
+    /// Whether the first event happens before the second, where this is the order of the history. It takes no memory.
+    pub fn before(&self, first: EventName, second: EventName) -> bool
+        ensures { (entries : List Entry) (i j : ℕ) → IsOrderOf entries self.now → IsAt entries first i
+            → IsAt entries second j → IsTrue result ↔ HappensBefore (items (moments entries)) i j }
+    {
+        self.tells(first, second)
+    }
+
     /// Whether the first event comes before the second.
     fn tells(&self, first: EventName, second: EventName) -> bool
         ensures { (h : ℕ → Item) (entries : List Entry) (i j : ℕ) (v w : Event) → TellsOrder h entries self.now

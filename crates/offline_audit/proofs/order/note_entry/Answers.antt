@@ -1,8 +1,5 @@
-use Rattle.std.proofs.Common.{◌≡◌, ℕ, suc, ◌+◌, arith, get_or, sym, ap, ◌∙◌, subst}
-use Rattle.std.proofs.lemmas.List.{get_or_default}
-use Rattle.run_record.specs.declared.event.Event.{Event}
+use Rattle.std.proofs.Common.{◌≡◌, ℕ, suc, ◌+◌, arith, get_or, length, subst}
 use Rattle.run_record.specs.declared.event.Event.TheVariants.{Begin}
-use Rattle.run_laws.specs.Moments.{Does}
 use Rattle.offline_audit.specs.Known.{Stands}
 use Rattle.offline_audit.proofs.StandsLaw.{event_stands}
 use Rattle.offline_audit.proofs.order.note_entry.Goals as goal
@@ -24,5 +21,6 @@ loop-event-preserved c =
 pub returns-clause-stands : goal.returns-clause-stands
 returns-clause-stands c = λ h number n nums makes st.
     let full = rw c.as_slice-event-items.ensures at c.loop-event-test.false in
-    let same : c.loop-event.event-index ≡ _ = full in
+    let most = rw c.as_slice-event-items.ensures at c.loop-event.auto.event-index-end in
+    let same : c.loop-event.event-index ≡ length c.args.entry.now.events = omega arith in
     subst (λ (x : ℕ). Stands h number (n + x) c.loop-event.known) same (c.loop-event.invariant.1 h number n nums makes st)
