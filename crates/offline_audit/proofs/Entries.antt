@@ -111,8 +111,7 @@ pub more_heard : (at t o k : ℕ) (c : ℕ → ℕ) (rest left : List (ℕ × �
 more_heard at t o k c rest left s new whole is apart step (inv, all) =
     let all' : All (λ (e : ℕ × ℕ). e.1 ≡ c e.0) ((o, k) ∷ left) = subst (λ (es : List (ℕ × ℕ)). All (λ (e : ℕ × ℕ). e.1 ≡ c e.0) es) is all in
     let later = tail (λ (e : ℕ × ℕ). e.1 ≡ c e.0) (o, k) left all' in
-    let first = head (λ (e : ℕ × ℕ). e.1 ≡ c e.0) (o, k) left all' in
-    (
+    let first = head (λ (e : ℕ × ℕ). e.1 ≡ c e.0) (o, k) left all' in (
       λ u. let i = rw is at (inv u) in elim (cases_eq u t) [
         | inl q ↦
             let a = eq-eqb u t q in
@@ -144,15 +143,14 @@ pub own_passed : (at t o k : ℕ) (c : ℕ → ℕ) (rest left : List (ℕ × �
     o ≡ t →
     (((u : ℕ) → (if u == t then s u else steps_after at (greatest (λ (x : ℕ). x) rest u) (s u)) ≡ whole u) × All (λ (e : ℕ × ℕ). e.1 ≡ c e.0) rest) →
     ((u : ℕ) → (if u == t then s u else steps_after at (greatest (λ (x : ℕ). x) left u) (s u)) ≡ whole u) × All (λ (e : ℕ × ℕ). e.1 ≡ c e.0) left
-own_passed at t o k c rest left s whole is same (inv, all) =
-    (
-      λ u. let i = rw is at (inv u) in elim (cases_eq u t) [
-        | inl q ↦ let a = eq-eqb u t q in rw a (rw a at i)
-        | inr d ↦
-            let a = ne_eqb u t d in
-            let b = ne_eqb u o (λ e. d (e ∙ same)) in
-            let z : max 0 (greatest (λ (x : ℕ). x) left u) ≡ greatest (λ (x : ℕ). x) left u = omega arith in
-            rw a (rw z at rw (a, b) at i)
-      ],
-      tail (λ (e : ℕ × ℕ). e.1 ≡ c e.0) (o, k) left (subst (λ (es : List (ℕ × ℕ)). All (λ (e : ℕ × ℕ). e.1 ≡ c e.0) es) is all),
-    )
+own_passed at t o k c rest left s whole is same (inv, all) = (
+  λ u. let i = rw is at (inv u) in elim (cases_eq u t) [
+    | inl q ↦ let a = eq-eqb u t q in rw a (rw a at i)
+    | inr d ↦
+        let a = ne_eqb u t d in
+        let b = ne_eqb u o (λ e. d (e ∙ same)) in
+        let z : max 0 (greatest (λ (x : ℕ). x) left u) ≡ greatest (λ (x : ℕ). x) left u = omega arith in
+        rw a (rw z at rw (a, b) at i)
+  ],
+  tail (λ (e : ℕ × ℕ). e.1 ≡ c e.0) (o, k) left (subst (λ (es : List (ℕ × ℕ)). All (λ (e : ℕ × ℕ). e.1 ≡ c e.0) es) is all),
+)

@@ -175,18 +175,17 @@ module _ (entries : List Entry) (k : ℕ) (e : Entry) (l : k < length entries) (
       Stands (items (moments entries)) (events_before (items (moments entries))) start known →
       AreRows (events_before (items (moments entries))) entries k rows →
       AreRows (events_before (items (moments entries))) entries (suc k) (rows ++ record { tid = e.tid; first = known.count } ∷ [])
-  rows_more known rows few st (len, each) =
-      (
-        omega (arith, length-append rows (record { tid = e.tid; first = known.count } ∷ [])),
-        λ k' x e' d m q lx. elim (cases_lt k' k) [
-          | inl b ↦
-              let a = each k' x e' d b q lx in
-              rw (get_or-append rows (record { tid = e.tid; first = known.count } ∷ []) d k' (omega arith)) a
-          | inr b ↦
-              let s : k' ≡ k = omega arith in
-              last_row k' x e' d s (subst (λ (i : ℕ). slice_get entries i ≡ Some e') s q) lx
-        ],
-      )
+  rows_more known rows few st (len, each) = (
+    omega (arith, length-append rows (record { tid = e.tid; first = known.count } ∷ [])),
+    λ k' x e' d m q lx. elim (cases_lt k' k) [
+      | inl b ↦
+          let a = each k' x e' d b q lx in
+          rw (get_or-append rows (record { tid = e.tid; first = known.count } ∷ []) d k' (omega arith)) a
+      | inr b ↦
+          let s : k' ≡ k = omega arith in
+          last_row k' x e' d s (subst (λ (i : ℕ). slice_get entries i ≡ Some e') s q) lx
+    ],
+  )
     where
       last_row : (k' x : ℕ) (e' : Entry) (d : Row) → k' ≡ k → slice_get entries k ≡ Some e' → x < length e'.events →
           ((slice_index_or (rows ++ record { tid = e.tid; first = known.count } ∷ []) k' d).tid ≡ e'.tid)
@@ -198,12 +197,11 @@ module _ (entries : List Entry) (k : ℕ) (e : Entry) (l : k < length entries) (
           let seam : slice_index_or (rows ++ r ∷ []) k' d ≡ r = ap (λ (i : ℕ). slice_index_or (rows ++ r ∷ []) i d) (s ∙ sym len) ∙ get_or-append_seam rows r [] d in
           let lx' : x < length e.events = subst (λ (y : Entry). x < length y.events) (sym same) lx in
           let follow = numbers_follow (items (moments entries)) (events_before (items (moments entries))) (are_numbers (items (moments entries))) start e.tid e.events makes
-              (slice_index_or e.events x (Rattle.run_record.specs.declared.event.Event.TheVariants.Begin)) x (omega arith) in
+          (slice_index_or e.events x (Rattle.run_record.specs.declared.event.Event.TheVariants.Begin)) x (omega arith) in
           let place : events_before (items (moments entries)) (start_of entries k' e' + x) ≡ events_before (items (moments entries)) (start + x) =
-              ap (λ (y : Entry). events_before (items (moments entries)) (start_of entries k' y + x)) (sym same)
-              ∙ ap (λ (i : ℕ). events_before (items (moments entries)) (start_of entries i e + x)) s in
-          let c = st.count in
-          (
+          ap (λ (y : Entry). events_before (items (moments entries)) (start_of entries k' y + x)) (sym same)
+          ∙ ap (λ (i : ℕ). events_before (items (moments entries)) (start_of entries i e + x)) s in
+          let c = st.count in (
             ap (λ (y : Row). y.tid) seam ∙ ap (λ (y : Entry). y.tid) same,
             let f = ap (λ (y : Row). y.first) seam in omega arith,
             omega arith,
@@ -216,8 +214,7 @@ made_at entries name i a =
       | inl s ↦ s.1
       | inr s ↦ absurd (let q = sym a.listed ∙ s.1 in cc)
     ] in
-    let none : Event = Rattle.run_record.specs.declared.event.Event.TheVariants.Begin in
-    (
+    let none : Event = Rattle.run_record.specs.declared.event.Event.TheVariants.Begin in (
       slice_index_or a.entry.events name.event none,
       ap (items (moments entries)) a.place ∙ makes entries name.entry a.entry l a.listed name.event none a.within,
     )

@@ -37,24 +37,23 @@ none_by steps at x later = (λ l. absurd (omega arith), λ t. absurd (later t.1.
 pub last_by : (steps : List Step) (at n x : ℕ) → AreRising steps → n < length steps →
     (slice_index_or steps n nothing).at ≤ at → ((k : ℕ) → n < k → k < length steps → at < (slice_index_or steps k nothing).at) →
     (x < (slice_index_or steps n nothing).known) ↔ TellBy steps at x
-last_by steps at n x rising l early later =
-    (
-      λ m. (slice_index_or steps n nothing, (n, l, get_or_default steps n (slice_index_or steps n nothing) nothing l), early, m),
-      λ t.
-          let k = t.1.0 in
-          let e : slice_index_or steps k nothing ≡ t.0 = get_or_default steps k nothing t.0 t.1.1 ∙ t.1.2 in
-          let a = ap (λ (s : Step). s.at) e in
-          let b = ap (λ (s : Step). s.known) e in
-          let c = t.2 in
-          let d = t.3 in
-          elim (cases_lt n k) [
-            | inl m ↦ absurd (let f = later k m t.1.1 in omega arith)
-            | inr m ↦ elim (cases_eq k n) [
-              | inl q ↦ let f = ap (λ (i : ℕ). (slice_index_or steps i nothing).known) q in omega arith
-              | inr q ↦ let f = (rising k n nothing (omega arith) l).1 in omega arith
-            ]
-          ],
-    )
+last_by steps at n x rising l early later = (
+  λ m. (slice_index_or steps n nothing, (n, l, get_or_default steps n (slice_index_or steps n nothing) nothing l), early, m),
+  λ t.
+      let k = t.1.0 in
+      let e : slice_index_or steps k nothing ≡ t.0 = get_or_default steps k nothing t.0 t.1.1 ∙ t.1.2 in
+      let a = ap (λ (s : Step). s.at) e in
+      let b = ap (λ (s : Step). s.known) e in
+      let c = t.2 in
+      let d = t.3 in
+      elim (cases_lt n k) [
+        | inl m ↦ absurd (let f = later k m t.1.1 in omega arith)
+        | inr m ↦ elim (cases_eq k n) [
+          | inl q ↦ let f = ap (λ (i : ℕ). (slice_index_or steps i nothing).known) q in omega arith
+          | inr q ↦ let f = (rising k n nothing (omega arith) l).1 in omega arith
+        ]
+      ],
+)
 
 pub is_less : (x y : ℕ) → IsTrue (nat_lt x y) ↔ (x < y)
 is_less x y = (λ t. grind arith, λ l. lt-ltb x y l)
@@ -71,14 +70,13 @@ pair_second a b c d e = ap (λ (o : Option (ℕ × ℕ)). (elim o [ None ↦ 0 |
 module _ (h : ℕ → Item) (entries : List Entry) (o : Order) (tells : TellsOrder h entries o) (i j t u : ℕ) (v w : Event) (isI : h i ≡ Does t v) (isJ : h j ≡ Does u w) where
   -- of one thread
   pub same_thread : t ≡ u → (tells.number i < tells.number j) ↔ HappensBefore h i j
-  same_thread e =
-      (
-        λ l. elim (cases_lt i j) [
-          | inl m ↦ One (Program u v w m (isI ∙ ap (λ (x : ℕ). Does x v) e) isJ)
-          | inr m ↦ absurd (let a = number-le h tells.number tells.numbers j i m in omega arith)
-        ],
-        λ b. number-lt h tells.number tells.numbers i j t v isI (before-lt h b),
-      )
+  same_thread e = (
+    λ l. elim (cases_lt i j) [
+      | inl m ↦ One (Program u v w m (isI ∙ ap (λ (x : ℕ). Does x v) e) isJ)
+      | inr m ↦ absurd (let a = number-le h tells.number tells.numbers j i m in omega arith)
+    ],
+    λ b. number-lt h tells.number tells.numbers i j t v isI (before-lt h b),
+  )
 
   -- of two threads
   pub two_threads : (t ≡ u → ⊥) → (x : ℕ) → (AreRising (steps_between o.threads u t) →

@@ -19,11 +19,10 @@ lt_max : (ends leaves : Bool) (a b x : ℕ) →
 lt_max true true a b x = (λ l. inr (refl, omega arith), λ s. elim s [ inl (e, l) ↦ absurd (cc) | inr (e, l) ↦ omega arith ])
 lt_max true false a b x = (λ l. absurd (omega arith), λ s. elim s [ inl (e, l) ↦ absurd (cc) | inr (e, l) ↦ absurd (cc) ])
 lt_max false false a b x = (λ l. inl (refl, omega arith), λ s. elim s [ inl (e, l) ↦ omega arith | inr (e, l) ↦ absurd (cc) ])
-lt_max false true a b x =
-    (
-      λ l. elim (cases_lt x a) [ inl m ↦ inl (refl, m) | inr m ↦ inr (refl, omega arith) ],
-      λ s. elim s [ inl (e, l) ↦ omega arith | inr (e, l) ↦ omega arith ],
-    )
+lt_max false true a b x = (
+  λ l. elim (cases_lt x a) [ inl m ↦ inl (refl, m) | inr m ↦ inr (refl, omega arith) ],
+  λ s. elim s [ inl (e, l) ↦ omega arith | inr (e, l) ↦ omega arith ],
+)
 
 empties_by : (y : Place) (t : ℕ) (w : Event) → item_empties y (Does t w) ≡ empties y w
 empties_by (Channel a p) t w = refl
@@ -49,12 +48,12 @@ module _ (h : ℕ → Item) (number : ℕ → ℕ) (nums : AreNumbers h number) 
         rising = heard.rising;
         early = λ k d l. let a = heard.early k d l in let b = nums.never_fall n in omega arith;
         now = λ i e f. (
-              λ k. elim (cases_eq k.at n) [
-                | inl q ↦ absurd (quiet k.event (sym (ap h q) ∙ k.made))
-                | inr d ↦ let l = k.early in (heard.now i e f).0 (record { at = k.at; event = k.event; early = omega arith; made = k.made; upto = k.upto })
-              ],
-              λ t'. let k = (heard.now i e f).1 t' in let l = k.early in record { at = k.at; event = k.event; early = omega arith; made = k.made; upto = k.upto },
-            );
+          λ k. elim (cases_eq k.at n) [
+            | inl q ↦ absurd (quiet k.event (sym (ap h q) ∙ k.made))
+            | inr d ↦ let l = k.early in (heard.now i e f).0 (record { at = k.at; event = k.event; early = omega arith; made = k.made; upto = k.upto })
+          ],
+          λ t'. let k = (heard.now i e f).1 t' in let l = k.early in record { at = k.at; event = k.event; early = omega arith; made = k.made; upto = k.upto },
+        );
         before = λ m i f e l a b. elim (cases_eq m n) [
           | inl q ↦ absurd (quiet f (sym (ap h q) ∙ a))
           | inr d ↦ heard.before m i f e (omega arith) a b
@@ -68,14 +67,13 @@ module _ (h : ℕ → Item) (number : ℕ → ℕ) (nums : AreNumbers h number) 
 
     -- what comes before the event is known to its thread, or is heard by it
     before_told : (u i : ℕ) (e : Event) → h i ≡ Does u e → HappensBefore h i n ↔ (IsKnown h n t i ⊎ (number i < told_from k (taken_from t w) u))
-    before_told u i e f =
-        (
-          λ b. elim (before_cases h n t i w made b) [
-            | inl c ↦ inl c
-            | inr (y, q, c) ↦ inr (subst (λ (o : Option Place). number i < told_from k o u) (sym q) ((st.places y u i e f).0 c))
-          ],
-          λ s. elim s [ inl c ↦ known_before h n t i w made c | inr l ↦ from u i e f (taken_from t w) refl l ],
-        )
+    before_told u i e f = (
+      λ b. elim (before_cases h n t i w made b) [
+        | inl c ↦ inl c
+        | inr (y, q, c) ↦ inr (subst (λ (o : Option Place). number i < told_from k o u) (sym q) ((st.places y u i e f).0 c))
+      ],
+      λ s. elim s [ inl c ↦ known_before h n t i w made c | inr l ↦ from u i e f (taken_from t w) refl l ],
+    )
 
     -- the thread's steps after the event
     abbrev now_steps : ℕ → List Step
@@ -92,8 +90,7 @@ module _ (h : ℕ → Item) (number : ℕ → ℕ) (nums : AreNumbers h number) 
     before_tell u i e d f =
         let a = before_told u i e f in
         let b = tell_after k.count (told_from k (taken_from t w) u) (steps_between k.threads t u) (number i) (st.threads t u d).rising in
-        let c = (st.threads t u d).now i e f in
-        (
+        let c = (st.threads t u d).now i e f in (
           λ q. b.1 (elim (a.0 q) [ inl r ↦ inl (c.0 r) | inr l ↦ inr l ]),
           λ q. a.1 (elim (b.0 q) [ inl r ↦ inl (c.1 r) | inr l ↦ inr l ]),
         )
@@ -113,13 +110,13 @@ module _ (h : ℕ → Item) (number : ℕ → ℕ) (nums : AreNumbers h number) 
             | inl q ↦
                 let c = before_tell u i e d b in
                 let all : All (λ (s : Step). s.at ≤ number m) (now_steps u) =
-                    (λ j x o.
-                        let z = early_after k.count (told_from k (taken_from t w) u) (number (suc n)) (steps_between k.threads t u)
-                            (λ j x l. let a = early_now u d j x l in let b = up_now in omega arith) (let b = up_now in omega arith) j x o in
-                        let b' = up_now in
-                        let c' = st.count in
-                        let e' = ap number q in
-                        omega arith) in
+                (λ j x o.
+                let z = early_after k.count (told_from k (taken_from t w) u) (number (suc n)) (steps_between k.threads t u)
+                (λ j x l. let a = early_now u d j x l in let b = up_now in omega arith) (let b = up_now in omega arith) j x o in
+                let b' = up_now in
+                let c' = st.count in
+                let e' = ap number q in
+                omega arith) in
                 let g = by_all (number m) (now_steps u) (number i) all in
                 (λ p. g.1 (c.0 (subst (HappensBefore h i) q p)), λ p. subst (HappensBefore h i) (sym q) (c.1 (g.0 p)))
             | inr x ↦
@@ -184,11 +181,10 @@ module _ (h : ℕ → Item) (number : ℕ → ℕ) (nums : AreNumbers h number) 
         let ends : item_empties y (h n) ≡ empties y w = ap (item_empties y) made ∙ empties_by y t w in
         let leaves : item_leaves y (h n) ≡ is_place (left_at t w) y = ap (item_leaves y) made in
         let is : told new y u ≡ max (if empties y w then 0 else told k y u) (if is_place (left_at t w) y then own_or_latest t k.count u (now_steps u) else 0) =
-            go.places y u ∙ ap (λ (x : ℕ). max (if empties y w then 0 else told k y u) (if is_place (left_at t w) y then x else 0)) (own_or u) in
+        go.places y u ∙ ap (λ (x : ℕ). max (if empties y w then 0 else told k y u) (if is_place (left_at t w) y then x else 0)) (own_or u) in
         let m = lt_max (empties y w) (is_place (left_at t w) y) (told k y u) (own_or_latest t k.count u (now_steps u)) (number i) in
         let a = st.places y u i e f in
-        let b = own_left u i e f in
-        (
+        let b = own_left u i e f in (
           λ p. subst (λ (x : ℕ). number i < x) (sym is) (m.1 (elim (left_cases h n y i p) [
             | inl (x, z) ↦ inl (sym ends ∙ x, a.0 z)
             | inr (x, z) ↦ inr (sym leaves ∙ x, b.0 z)
@@ -236,11 +232,11 @@ module _ (h : ℕ → Item) (number : ℕ → ℕ) (nums : AreNumbers h number) 
       record {
         count = st.count ∙ sym same;
         places = λ y u i e f. (
-              λ p. elim (left_cases h n y i p) [
-                | inl (x, z) ↦ (st.places y u i e f).0 z
-                | inr (x, z) ↦ absurd (let c = sym x ∙ no_leaves (h n) y quiet in cc)
-              ],
-              λ l. left_from h n y i (inl (no_empties (h n) y quiet, (st.places y u i e f).1 l)),
-            );
+          λ p. elim (left_cases h n y i p) [
+            | inl (x, z) ↦ (st.places y u i e f).0 z
+            | inr (x, z) ↦ absurd (let c = sym x ∙ no_leaves (h n) y quiet in cc)
+          ],
+          λ l. left_from h n y i (inl (no_empties (h n) y quiet, (st.places y u i e f).1 l)),
+        );
         threads = λ t u d. quiet_heard n t u (steps_between k.threads t u) (quiet t) (st.threads t u d);
       }

@@ -21,17 +21,16 @@ pub each : (P : Step → Type 0) (steps : List Step) (s : Step) → All P steps 
 each P steps s a (k, l, e) = subst P e (a k s l)
 
 tell_push : (steps : List Step) (s : Step) (x : ℕ) → Tell (steps ++ s ∷ []) x ↔ (Tell steps x ⊎ (x < s.known))
-tell_push steps s x =
-    (
-      λ t. elim (Contains-append_cases steps (s ∷ []) t.0 t.1) [
-        | inl c ↦ inl (t.0, c, t.2)
-        | inr c ↦ inr (subst (λ (y : Step). x < y.known) (sym (single s t.0 c)) t.2)
-      ],
-      λ t. elim t [
-        | inl c ↦ (c.0, Contains-append_left steps (s ∷ []) c.0 c.1, c.2)
-        | inr l ↦ (s, Contains-append_right steps (s ∷ []) s (itself s), l)
-      ],
-    )
+tell_push steps s x = (
+  λ t. elim (Contains-append_cases steps (s ∷ []) t.0 t.1) [
+    | inl c ↦ inl (t.0, c, t.2)
+    | inr c ↦ inr (subst (λ (y : Step). x < y.known) (sym (single s t.0 c)) t.2)
+  ],
+  λ t. elim t [
+    | inl c ↦ (c.0, Contains-append_left steps (s ∷ []) c.0 c.1, c.2)
+    | inr l ↦ (s, Contains-append_right steps (s ∷ []) s (itself s), l)
+  ],
+)
 
 -- no step tells more than the last one
 known-le : (steps : List Step) → AreRising steps → (k : ℕ) (d : Step) → k < length steps → (slice_index_or steps k d).known ≤ latest steps
@@ -53,15 +52,14 @@ last_tells (s ∷ steps) x l =
 
 -- steps that rise tell what the last one tells
 pub tell_latest : (steps : List Step) → AreRising steps → (x : ℕ) → Tell steps x ↔ (x < latest steps)
-tell_latest steps rising x =
-    (
-      λ t.
-          let k = known-le steps rising t.1.0 t.0 t.1.1 in
-          let e = ap (λ (s : Step). s.known) t.1.2 in
-          let l = t.2 in
-          omega arith,
-      last_tells steps x,
-    )
+tell_latest steps rising x = (
+  λ t.
+      let k = known-le steps rising t.1.0 t.0 t.1.1 in
+      let e = ap (λ (s : Step). s.known) t.1.2 in
+      let l = t.2 in
+      omega arith,
+  last_tells steps x,
+)
 
 -- the steps after one more event tell what they told, and what is heard by it
 pub tell_after : (at k : ℕ) (steps : List Step) (x : ℕ) → AreRising steps → Tell (steps_after at k steps) x ↔ (Tell steps x ⊎ (x < k))
@@ -94,17 +92,16 @@ early_after at k n steps early now =
     ]
 
 by_push : (at k a : ℕ) (steps : List Step) (x : ℕ) → a < at → TellBy (steps ++ record { at = at; known = k } ∷ []) a x ↔ TellBy steps a x
-by_push at k a steps x later =
-    (
-      λ t. elim (Contains-append_cases steps (record { at = at; known = k } ∷ []) t.0 t.1) [
-        | inl c ↦ (t.0, c, t.2, t.3)
-        | inr c ↦
-            let e = ap (λ (s : Step). s.at) (single (record { at = at; known = k }) t.0 c) in
-            let l = t.2 in
-            absurd (omega arith)
-      ],
-      λ t. (t.0, Contains-append_left steps (record { at = at; known = k } ∷ []) t.0 t.1, t.2, t.3),
-    )
+by_push at k a steps x later = (
+  λ t. elim (Contains-append_cases steps (record { at = at; known = k } ∷ []) t.0 t.1) [
+    | inl c ↦ (t.0, c, t.2, t.3)
+    | inr c ↦
+        let e = ap (λ (s : Step). s.at) (single (record { at = at; known = k }) t.0 c) in
+        let l = t.2 in
+        absurd (omega arith)
+  ],
+  λ t. (t.0, Contains-append_left steps (record { at = at; known = k } ∷ []) t.0 t.1, t.2, t.3),
+)
 
 -- what was told by an earlier event stays
 pub by_after : (at k a : ℕ) (steps : List Step) (x : ℕ) → a < at → TellBy (steps_after at k steps) a x ↔ TellBy steps a x

@@ -61,8 +61,8 @@ pub record Hears (t : ℕ) (e : Event) (k new : Known) : Type 0 where
   pub count : new.count ≡ k.count
   pub steps : (v u : ℕ) → steps_between new.threads v u
       ≡ (if v == t then (if u == t then steps_between k.threads v u
-          else steps_after k.count (told_from k (taken_from t e) u) (steps_between k.threads v u))
-          else steps_between k.threads v u)
+      else steps_after k.count (told_from k (taken_from t e) u) (steps_between k.threads v u))
+      else steps_between k.threads v u)
   pub places : (y : Place) (u : ℕ) → told new y u ≡ told k y u
 
 -- By the event thread t leaves what it knows with it, and ends what the event ends.
@@ -77,7 +77,7 @@ pub record GoesOn (t : ℕ) (e : Event) (k new : Known) : Type 0 where
   pub count : new.count ≡ k.count + 1
   pub steps : (v u : ℕ) → steps_between new.threads v u
       ≡ (if v == t then (if u == t then steps_between k.threads v u
-          else steps_after k.count (told_from k (taken_from t e) u) (steps_between k.threads v u))
-          else steps_between k.threads v u)
+      else steps_after k.count (told_from k (taken_from t e) u) (steps_between k.threads v u))
+      else steps_between k.threads v u)
   pub places : (y : Place) (u : ℕ) → told new y u
       ≡ max (if empties y e then 0 else told k y u) (if is_place (left_at t e) y then own_or_latest t k.count u (steps_between new.threads t u) else 0)

@@ -1,5 +1,6 @@
 -- What an order of a history tells.
 use Rattle.std.specs.Prelude.{◌≡◌, ℕ, zero, suc, ◌+◌, ◌<◌, ◌^◌, if◌then◌else◌, Bool, true, false, List, length, take, slice_get, slice_index_or, Option, Some}
+use Rattle.std.specs.List.{All}
 use Rattle.run_record.specs.declared.event.Event.{Event}
 use Rattle.run_record.specs.declared.entry.Entry.{Entry}
 use Rattle.run_laws.specs.Moments.{Item, Does, Notes, NewEra, Past, moments, moments_in, items}
@@ -7,6 +8,11 @@ use Rattle.offline_audit.specs.declared.order.EventName.{EventName}
 use Rattle.offline_audit.specs.declared.order.Row.{Row}
 use Rattle.offline_audit.specs.declared.order.Order.{Order}
 use Rattle.offline_audit.specs.Known.{AreNumbers, AreHeard, steps_between}
+
+-- the entries, and the events of each entry, are fewer than 2^32
+pub record AreFew (entries : List Entry) : Type 0 where
+  pub count : length entries < 2 ^ 32
+  pub events : All (λ (e : Entry). length e.events < 2 ^ 32) entries
 
 -- the position in the moments at which the events of entry k begin, which is e: after the moments of the entries before,
 -- the eras that begin, and its own beginning
@@ -40,7 +46,7 @@ abbrev pub AreRows : (ℕ → ℕ) → List Entry → ℕ → List Row → Type 
 AreRows number entries n rows =
     (length rows ≡ n) × ((k x : ℕ) (e : Entry) (d : Row) → k < n → slice_get entries k ≡ Some e → x < length e.events →
     ((slice_index_or rows k d).tid ≡ e.tid) × ((slice_index_or rows k d).first + x ≡ number (start_of entries k e + x))
-        × (number (start_of entries k e + x) < 2 ^ 64))
+    × (number (start_of entries k e + x) < 2 ^ 64))
 
 -- The order tells which events come before which in these items, whose events are among those of the entries.
 pub record TellsOrder (h : ℕ → Item) (entries : List Entry) (o : Order) : Type 0 where

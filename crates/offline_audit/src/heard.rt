@@ -38,13 +38,7 @@ fn extend(steps: &mut Items<Step>, at: u64, known: u64) -> Result<(), NoMemory>
 }
 
 /// By the event of the number `at` a thread hears of another one's events.
-fn hear(
-    alloc: Global,
-    heard: &mut Heard,
-    at: u64,
-    tid: u32,
-    known: u64,
-) -> Result<(), NoMemory>
+fn hear(alloc: Global, heard: &mut Heard, at: u64, tid: u32, known: u64) -> Result<(), NoMemory>
     ensures { OnOk result ((u : ℕ) → steps_of heard.new u
         ≡ (if u == tid then steps_after at known (steps_of heard.old tid) else steps_of heard.old u)) }
 {

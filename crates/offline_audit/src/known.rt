@@ -62,8 +62,8 @@ fn hear_from(
 ) -> Result<(), NoMemory>
     ensures { OnOk result ((v u : ℕ) → steps_between threads.new v u
         ≡ (if v == tid then (if u == tid then steps_between threads.old v u
-            else steps_after at (known_at clocks.now key u) (steps_between threads.old v u))
-            else steps_between threads.old v u)) }
+        else steps_after at (known_at clocks.now key u) (steps_between threads.old v u))
+        else steps_between threads.old v u)) }
 {
     let Some(clock) = clocks.get(&key) else {
         return Ok(());
@@ -88,8 +88,8 @@ fn leave_at(
 ) -> Result<(), NoMemory>
     ensures { OnOk result ((k u : ℕ) → known_at clocks.new k u
         ≡ (if k == key then max (known_at clocks.old k u)
-            (if u == tid then number else latest (steps_between threads.now tid u))
-            else known_at clocks.old k u)) }
+        (if u == tid then number else latest (steps_between threads.now tid u))
+        else known_at clocks.old k u)) }
 {
     let mut clock = match clocks.remove(&key) {
         Some(clock) => clock,
@@ -146,8 +146,8 @@ fn release(
 ) -> Result<(), NoMemory>
     ensures { OnOk result ((k u : ℕ) → known_at clocks.new k u
         ≡ (if k == addr then max (if replaces then 0 else known_at clocks.old k u)
-            (if u == tid then number else latest (steps_between threads.now tid u))
-            else known_at clocks.old k u)) }
+        (if u == tid then number else latest (steps_between threads.now tid u))
+        else known_at clocks.old k u)) }
 {
     if replaces {
         forget(clocks, addr);

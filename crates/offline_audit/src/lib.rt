@@ -5,5 +5,7 @@ mod clock;
 mod heard;
 mod known;
 mod order;
+#[cfg(test)]
+mod tests;
 
 pub use order::{EventName, Order};

@@ -1,13 +1,12 @@
 // The order of a history's events.
 ghost use Rattle.std.specs.Prelude.{◌≡◌, ◌<◌, ◌+◌, ◌*◌, ◌^◌, ◌↔◌, ℕ, List, length, Some, IsTrue, OnOk, IfOk};
-ghost use Rattle.std.specs.List.{All};
 ghost use Rattle.run_record.specs.declared.entry.Entry.{Entry};
 ghost use Rattle.run_record.specs.declared.event.Event.{Event};
 ghost use Rattle.run_laws.specs.Moments.{Item, Does, moments, items};
 ghost use Rattle.run_laws.specs.HappensBefore.{HappensBefore};
 ghost use Rattle.offline_audit.specs.Heard.{TellBy, AreRising};
 ghost use Rattle.offline_audit.specs.Known.{AreNumbers, Stands, steps_between};
-ghost use Rattle.offline_audit.specs.Orders.{IsAt, Makes, AreRows, TellsOrder, IsOrderOf};
+ghost use Rattle.offline_audit.specs.Orders.{AreFew, IsAt, Makes, AreRows, TellsOrder, IsOrderOf};
 
 use crate::heard::Step;
 use crate::known::{Known, Threads, note_event};
@@ -89,8 +88,7 @@ fn heard_of(threads: &Threads, tid: u32, other: u32, at: u64) -> u64
 impl Order {
     /// The order of a history. It needn't be that of a run.
     pub fn new(alloc: Global, history: &Record) -> Result<Order, NoMemory>
-        requires entries { length history.now.entries < 2 ^ 32 }
-        requires events { All (λ e. length e.events < 2 ^ 32) history.now.entries }
+        requires { AreFew history.now.entries }
         ensures { IfOk result (IsOrderOf history.now.entries) }
     {
         let mut rows = Vec::new(alloc);

@@ -11,7 +11,7 @@ returns-in-Some-get c =
     let outer = sym c.in-Some.ensures.value in
     let inner = sym c.in-Some-get.ensures.value in
     let same : steps_between c.args.threads.now c.args.tid c.args.other ≡ c.in-Some-get.steps.now =
-        ap (λ (o : Option (BTreeMap ℕ (List Step))). elim o [ None ↦ [] | Some heard ↦ steps_of heard c.args.other ]) outer
-        ∙ ap (λ (o : Option (List Step)). unwrap_or o []) inner in
+    ap (λ (o : Option (BTreeMap ℕ (List Step))). elim o [ None ↦ [] | Some heard ↦ steps_of heard c.args.other ]) outer
+    ∙ ap (λ (o : Option (List Step)). unwrap_or o []) inner in
     subst (λ (steps : List Step). AreRising steps → (x : ℕ) → (x < c.known_by.result) ↔ TellBy steps c.args.at x) (sym same)
     (rw c.as_slice.ensures at c.known_by.ensures)

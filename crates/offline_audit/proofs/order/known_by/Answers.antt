@@ -12,7 +12,7 @@ returns-then-after-eq0 c = λ rising x.
     let n = c.partition_point-after.result in
     let at = c.args.at in
     let parted = IsPartitionPoint-from_clause (λ (s : Step). leb s.at at) xs n c.partition_point-after.ensures.partitioned
-        (IsPartitionedBy-leb (λ (s : Step). s.at) xs at (rising_at xs rising)) (λ x r q k. search rules) in
+    (IsPartitionedBy-leb (λ (s : Step). s.at) xs at (rising_at xs rising)) (λ x r q k. search rules) in
     none_by xs at x (λ k d l m. let f = parted.1 k d (omega arith) m in grind arith)
 
 pub returns-else-after-eq0 : goal.returns-else-after-eq0
@@ -21,7 +21,7 @@ returns-else-after-eq0 c = λ rising x.
     let n = c.partition_point-after.result in
     let at = c.args.at in
     let parted = IsPartitionPoint-from_clause (λ (s : Step). leb s.at at) xs n c.partition_point-after.ensures.partitioned
-        (IsPartitionedBy-leb (λ (s : Step). s.at) xs at (rising_at xs rising)) (λ x r q k. search rules) in
+    (IsPartitionedBy-leb (λ (s : Step). s.at) xs at (rising_at xs rising)) (λ x r q k. search rules) in
     let bound = c.partition_point-after.ensures.bound in
     last_by xs at (n - 1) x rising (omega arith)
     (let f = parted.0 (n - 1) nothing (omega arith) (omega arith) in grind arith)

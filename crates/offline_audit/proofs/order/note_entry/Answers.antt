@@ -9,8 +9,7 @@ loop-event-preserved c =
     let es = c.args.entry.now.events in
     let k = c.loop-event.event-index in
     let l = rw c.as_slice-event-items.ensures at c.loop-event-test.true in
-    let goes = rw c.as_slice-event-items.ensures at c.in_ok-note_event.ensures in
-    (
+    let goes = rw c.as_slice-event-items.ensures at c.in_ok-note_event.ensures in (
       let a = goes.count in let b = c.loop-event.invariant.0 in omega arith,
       λ h number n nums makes st.
           let next : n + (k + 1) ≡ suc (n + k) = omega arith in

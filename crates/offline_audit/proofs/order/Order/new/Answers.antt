@@ -11,12 +11,11 @@ use Rattle.offline_audit.proofs.MomentPlaces.{nothing_stands, makes, start_stand
 use Rattle.offline_audit.proofs.order.Order.new.Goals as goal
 
 pub loop-entry-init : goal.loop-entry-init
-loop-entry-init c =
-    (
-      nothing_stands c.args.history.now.entries c.new-known.result c.new-known.ensures.count c.new-known.ensures.steps c.new-known.ensures.places,
-      (ap (λ (rows : List Row). length rows) c.new-rows.ensures.items, λ k x e d l. absurd (omega arith)),
-      let q = c.new-known.ensures.count in omega arith,
-    )
+loop-entry-init c = (
+  nothing_stands c.args.history.now.entries c.new-known.result c.new-known.ensures.count c.new-known.ensures.steps c.new-known.ensures.places,
+  (ap (λ (rows : List Row). length rows) c.new-rows.ensures.items, λ k x e d l. absurd (omega arith)),
+  let q = c.new-known.ensures.count in omega arith,
+)
 
 pub loop-entry-preserved : goal.loop-entry-preserved
 loop-entry-preserved c =
@@ -34,14 +33,13 @@ loop-entry-preserved c =
     let place = next_start entries k e l listed in
     let small : length e.events < 2 ^ 32 = subst (λ (d : Entry). length d.events < 2 ^ 32) (sym is) (c.requires.events k e l) in
     let bound = c.loop-entry.invariant.2 in
-    let many = c.requires.entries in
-    let few : known.count + length e.events < 2 ^ 64 = omega arith in
-    (
+    let many = c.requires.count in
+    let few : known.count + length e.events < 2 ^ 64 = omega arith in (
       subst (λ (i : ℕ). Stands h (events_before h) (length (moments (take i entries))) c.note_entry.new.known) (sym next)
-      (subst (λ (n : ℕ). Stands h (events_before h) n c.note_entry.new.known) (sym place) after),
+          (subst (λ (n : ℕ). Stands h (events_before h) n c.note_entry.new.known) (sym place) after),
       subst (λ (i : ℕ). AreRows (events_before h) entries i c.push.new.self.items) (sym next)
-      (subst (λ (rows : List Row). AreRows (events_before h) entries (suc k) rows) (sym c.in_ok-push.ensures.items)
-      (rows_more entries k e l listed known c.loop-entry.rows.items few at c.loop-entry.invariant.1)),
+          (subst (λ (rows : List Row). AreRows (events_before h) entries (suc k) rows) (sym c.in_ok-push.ensures.items)
+          (rows_more entries k e l listed known c.loop-entry.rows.items few at c.loop-entry.invariant.1)),
       let a = c.in_ok-note_entry.ensures.count in omega arith,
     )
 
