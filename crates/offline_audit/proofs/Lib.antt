@@ -4,3 +4,4 @@ pub mod StepLaws
 pub mod StandsLaw
 pub mod OrderLaws
 pub mod MomentPlaces
+pub mod MutexLaws

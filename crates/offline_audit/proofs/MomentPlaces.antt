@@ -17,6 +17,8 @@ use Rattle.offline_audit.specs.declared.order.Row.{Row}
 use Rattle.offline_audit.specs.Known.{AreNumbers, Stands, steps_between, told}
 use Rattle.offline_audit.specs.declared.order.EventName.{EventName}
 use Rattle.run_laws.specs.Clocks.{Place}
+use Rattle.std.specs.BTreeMap.{BTreeMap}
+use Rattle.offline_audit.specs.Mutexes.{awaited, awaited_after, AreAwaited}
 use Rattle.offline_audit.specs.Orders.{IsAt, start_of, is_event, events_before, Makes, AreRows}
 use Rattle.offline_audit.proofs.StandsLaw.{quiet_stands}
 
@@ -40,6 +42,27 @@ are_numbers h = record {
   rise = λ n t e f. let a = one_more h n (Does t e) f in omega arith;
   never_fall = λ n. let a = events_before-next h n in omega arith;
 }
+
+-- the same where some events are left out
+pub numbers_of : (h g : ℕ → Item) → ((n t : ℕ) (v : Event) → g n ≡ Does t v → h n ≡ Does t v) → AreNumbers g (events_before h)
+numbers_of h g sub = record {
+  rise = λ n t e f. (are_numbers h).rise n t e (sub n t e f);
+  never_fall = (are_numbers h).never_fall;
+}
+
+pub awaited-next : (h : ℕ → Item) (n t : ℕ) → awaited h (suc n) t ≡ awaited_after t (h n) (awaited h n t)
+unfolding awaited
+awaited-next h n t = refl
+
+pub awaited-start : (h : ℕ → Item) (t : ℕ) → awaited h 0 t ≡ 0
+unfolding awaited
+awaited-start h t = refl
+
+no_change : (it : Item) → is_event it ≡ false → (t k : ℕ) → awaited_after t it k ≡ k
+no_change (Does u e) f t k = absurd (cc)
+no_change (Notes u note) f t k = refl
+no_change NewEra f t k = refl
+no_change Past f t k = refl
 
 -- events of one thread that follow one another have numbers that do
 pub numbers_follow : (h : ℕ → Item) (number : ℕ → ℕ) → AreNumbers h number → (n t : ℕ) (es : List Event) → Makes h n t es → (d : Event) (x : ℕ) →
@@ -142,40 +165,63 @@ module _ (entries : List Entry) (k : ℕ) (e : Entry) (l : k < length entries) (
       no_event (is_event it) f (events_before (items (moments entries)) n) (events_before (items (moments entries)) (suc n))
       (one_more (items (moments entries)) n it q)
 
-  quiet : (n : ℕ) (it : Item) (known : Known) → items (moments entries) n ≡ it → is_event it ≡ false →
-      Stands (items (moments entries)) (events_before (items (moments entries))) n known →
-      Stands (items (moments entries)) (events_before (items (moments entries))) (suc n) known
-  quiet n it known q f =
-      quiet_stands (items (moments entries)) (events_before (items (moments entries))) (are_numbers (items (moments entries))) n known
-      (λ t v x. not_event it f t v (sym q ∙ x)) (still n it q f)
+  -- What stands at the moments before an entry goes on, also where some of the events are left out.
+  module _ (g : ℕ → Item) (sub : (n t : ℕ) (v : Event) → g n ≡ Does t v → items (moments entries) n ≡ Does t v) where
+    quiet : (n : ℕ) (it : Item) (known : Known) → items (moments entries) n ≡ it → is_event it ≡ false →
+        Stands g (events_before (items (moments entries))) n known → Stands g (events_before (items (moments entries))) (suc n) known
+    quiet n it known q f st =
+        quiet_stands g (events_before (items (moments entries))) (numbers_of (items (moments entries)) g sub) n known known
+        (λ t v x. not_event it f t v (sym q ∙ sub n t v x)) (st.count ∙ sym (still n it q f)) (λ t u. refl) (λ y u. refl) st
 
-  eras_stand : (j : ℕ) (known : Known) → j ≤ eras → Stands (items (moments entries)) (events_before (items (moments entries))) (length (moments before)) known →
-      Stands (items (moments entries)) (events_before (items (moments entries))) (length (moments before) + j) known
-  eras_stand zero known m st =
+    eras_stand : (j : ℕ) (known : Known) → j ≤ eras → Stands g (events_before (items (moments entries))) (length (moments before)) known →
+        Stands g (events_before (items (moments entries))) (length (moments before) + j) known
+    eras_stand zero known m st =
+        let q : length (moments before) + 0 ≡ length (moments before) = omega arith in
+        subst (λ (n : ℕ). Stands g (events_before (items (moments entries))) n known) (sym q) st
+    eras_stand (suc j) known m st =
+        let q : length (moments before) + suc j ≡ suc (length (moments before) + j) = omega arith in
+        subst (λ (n : ℕ). Stands g (events_before (items (moments entries))) n known) (sym q)
+        (quiet (length (moments before) + j) NewEra known (at_era j (omega arith)) refl (eras_stand j known (omega arith) st))
+
+    -- what stands before an entry stands where its events begin
+    pub start_stands : (known : Known) → Stands g (events_before (items (moments entries))) (length (moments before)) known →
+        Stands g (events_before (items (moments entries))) start known
+    start_stands known st =
+        let q : suc (length (moments before) + eras) ≡ start = let r = length_eras in omega arith in
+        subst (λ (n : ℕ). Stands g (events_before (items (moments entries))) n known) q
+        (quiet (length (moments before) + eras) (Notes e.tid e.note) known at_note refl (eras_stand eras known (omega arith) st))
+
+  awaited_still : (n : ℕ) (it : Item) → items (moments entries) n ≡ it → is_event it ≡ false → (left : BTreeMap ℕ ℕ) →
+      AreAwaited (items (moments entries)) n left → AreAwaited (items (moments entries)) (suc n) left
+  awaited_still n it q f left a = λ t. a t ∙ sym (awaited-next (items (moments entries)) n t ∙ (ap (λ (x : Item). awaited_after t x (awaited (items (moments entries)) n t)) q ∙ no_change it f t (awaited (items (moments entries)) n t)))
+
+  awaited_eras : (j : ℕ) (left : BTreeMap ℕ ℕ) → j ≤ eras → AreAwaited (items (moments entries)) (length (moments before)) left →
+      AreAwaited (items (moments entries)) (length (moments before) + j) left
+  awaited_eras zero left m a =
       let q : length (moments before) + 0 ≡ length (moments before) = omega arith in
-      subst (λ (n : ℕ). Stands (items (moments entries)) (events_before (items (moments entries))) n known) (sym q) st
-  eras_stand (suc j) known m st =
+      subst (λ (n : ℕ). AreAwaited (items (moments entries)) n left) (sym q) a
+  awaited_eras (suc j) left m a =
       let q : length (moments before) + suc j ≡ suc (length (moments before) + j) = omega arith in
-      subst (λ (n : ℕ). Stands (items (moments entries)) (events_before (items (moments entries))) n known) (sym q)
-      (quiet (length (moments before) + j) NewEra known (at_era j (omega arith)) refl (eras_stand j known (omega arith) st))
+      subst (λ (n : ℕ). AreAwaited (items (moments entries)) n left) (sym q)
+      (awaited_still (length (moments before) + j) NewEra (at_era j (omega arith)) refl left (awaited_eras j left (omega arith) a))
 
-  -- what stands before an entry stands where its events begin
-  pub start_stands : (known : Known) → Stands (items (moments entries)) (events_before (items (moments entries))) (length (moments before)) known →
-      Stands (items (moments entries)) (events_before (items (moments entries))) start known
-  start_stands known st =
+  -- the same of the events of mutexes
+  pub start_awaited : (left : BTreeMap ℕ ℕ) → AreAwaited (items (moments entries)) (length (moments before)) left →
+      AreAwaited (items (moments entries)) start left
+  start_awaited left a =
       let q : suc (length (moments before) + eras) ≡ start = let r = length_eras in omega arith in
-      subst (λ (n : ℕ). Stands (items (moments entries)) (events_before (items (moments entries))) n known) q
-      (quiet (length (moments before) + eras) (Notes e.tid e.note) known at_note refl (eras_stand eras known (omega arith) st))
+      subst (λ (n : ℕ). AreAwaited (items (moments entries)) n left) q
+      (awaited_still (length (moments before) + eras) (Notes e.tid e.note) at_note refl left (awaited_eras eras left (omega arith) a))
 
   same_entry : (e' : Entry) → slice_get entries k ≡ Some e' → e ≡ e'
   same_entry e' q = let a = sym is ∙ q in cc
 
   -- one more row
   pub rows_more : (known : Known) (rows : List Row) → known.count + length e.events < 2 ^ 64 →
-      Stands (items (moments entries)) (events_before (items (moments entries))) start known →
+      known.count ≡ events_before (items (moments entries)) start →
       AreRows (events_before (items (moments entries))) entries k rows →
       AreRows (events_before (items (moments entries))) entries (suc k) (rows ++ record { tid = e.tid; first = known.count } ∷ [])
-  rows_more known rows few st (len, each) = (
+  rows_more known rows few count (len, each) = (
     omega (arith, length-append rows (record { tid = e.tid; first = known.count } ∷ [])),
     λ k' x e' d m q lx. elim (cases_lt k' k) [
       | inl b ↦
@@ -201,7 +247,7 @@ module _ (entries : List Entry) (k : ℕ) (e : Entry) (l : k < length entries) (
           let place : events_before (items (moments entries)) (start_of entries k' e' + x) ≡ events_before (items (moments entries)) (start + x) =
           ap (λ (y : Entry). events_before (items (moments entries)) (start_of entries k' y + x)) (sym same)
           ∙ ap (λ (i : ℕ). events_before (items (moments entries)) (start_of entries i e + x)) s in
-          let c = st.count in (
+          (
             ap (λ (y : Row). y.tid) seam ∙ ap (λ (y : Entry). y.tid) same,
             let f = ap (λ (y : Row). y.first) seam in omega arith,
             omega arith,
@@ -227,10 +273,10 @@ within entries n t e f = elim (cases_lt n (length (moments entries))) [
 ]
 
 -- nothing is known at first
-pub nothing_stands : (entries : List Entry) (known : Known) → known.count ≡ 0 → ((v u : ℕ) → steps_between known.threads v u ≡ []) →
+pub nothing_stands : (g : ℕ → Item) (entries : List Entry) (known : Known) → known.count ≡ 0 → ((v u : ℕ) → steps_between known.threads v u ≡ []) →
     ((y : Place) (u : ℕ) → told known y u ≡ 0) →
-    Stands (items (moments entries)) (events_before (items (moments entries))) 0 known
-nothing_stands entries known count steps places = record {
+    Stands g (events_before (items (moments entries))) 0 known
+nothing_stands g entries known count steps places = record {
   count = count ∙ sym (events_before-start (items (moments entries)));
   places = λ y u i e f. (λ p. absurd (let l = p.early in omega arith), λ l. absurd (let z = places y u in omega arith));
   threads = λ t u d. rw (steps t u) (record {

@@ -227,16 +227,18 @@ module _ (h : ℕ → Item) (number : ℕ → ℕ) (nums : AreNumbers h number) 
   no_leaves Past y d = refl
 
   -- a moment at which no thread makes an event
-  pub quiet_stands : (n : ℕ) (k : Known) → ((t : ℕ) (e : Event) → h n ≡ Does t e → ⊥) → number (suc n) ≡ number n → Stands h number n k → Stands h number (suc n) k
-  quiet_stands n k quiet same st =
+  pub quiet_stands : (n : ℕ) (k new : Known) → ((t : ℕ) (e : Event) → h n ≡ Does t e → ⊥) → new.count ≡ number (suc n) →
+      ((t u : ℕ) → steps_between new.threads t u ≡ steps_between k.threads t u) → ((y : Place) (u : ℕ) → told new y u ≡ told k y u) →
+      Stands h number n k → Stands h number (suc n) new
+  quiet_stands n k new quiet count steps places st =
       record {
-        count = st.count ∙ sym same;
+        count = count;
         places = λ y u i e f. (
-          λ p. elim (left_cases h n y i p) [
-            | inl (x, z) ↦ (st.places y u i e f).0 z
-            | inr (x, z) ↦ absurd (let c = sym x ∙ no_leaves (h n) y quiet in cc)
-          ],
-          λ l. left_from h n y i (inl (no_empties (h n) y quiet, (st.places y u i e f).1 l)),
-        );
-        threads = λ t u d. quiet_heard n t u (steps_between k.threads t u) (quiet t) (st.threads t u d);
+              λ p. subst (λ (x : ℕ). number i < x) (sym (places y u)) (elim (left_cases h n y i p) [
+                | inl (x, z) ↦ (st.places y u i e f).0 z
+                | inr (x, z) ↦ absurd (let c = sym x ∙ no_leaves (h n) y quiet in cc)
+              ]),
+              λ l. left_from h n y i (inl (no_empties (h n) y quiet, (st.places y u i e f).1 (subst (λ (x : ℕ). number i < x) (places y u) l))),
+            );
+        threads = λ t u d. subst (AreHeard h number (suc n) t u) (sym (steps t u)) (quiet_heard n t u (steps_between k.threads t u) (quiet t) (st.threads t u d));
       }

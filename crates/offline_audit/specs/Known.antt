@@ -81,3 +81,9 @@ pub record GoesOn (t : ℕ) (e : Event) (k new : Known) : Type 0 where
       else steps_between k.threads v u)
   pub places : (y : Place) (u : ℕ) → told new y u
       ≡ max (if empties y e then 0 else told k y u) (if is_place (left_at t e) y then own_or_latest t k.count u (steps_between new.threads t u) else 0)
+
+-- One more event that is left out: it is counted, and all else stays.
+pub record Passes (k new : Known) : Type 0 where
+  pub count : new.count ≡ k.count + 1
+  pub steps : (v u : ℕ) → steps_between new.threads v u ≡ steps_between k.threads v u
+  pub places : (y : Place) (u : ℕ) → told new y u ≡ told k y u

@@ -7,6 +7,7 @@ use Rattle.run_laws.specs.Moments.{Item, Does, Notes, NewEra, Past, moments, mom
 use Rattle.offline_audit.specs.declared.order.EventName.{EventName}
 use Rattle.offline_audit.specs.declared.order.Row.{Row}
 use Rattle.offline_audit.specs.declared.order.Order.{Order}
+use Rattle.offline_audit.specs.Mutexes.{without_mutexes}
 use Rattle.offline_audit.specs.Known.{AreNumbers, AreHeard, steps_between}
 
 -- the entries, and the events of each entry, are fewer than 2^32
@@ -59,3 +60,7 @@ pub record TellsOrder (h : ℕ → Item) (entries : List Entry) (o : Order) : Ty
 -- the order of a history's events is happens-before
 abbrev pub IsOrderOf : List Entry → Order → Type 0
 IsOrderOf entries o = TellsOrder (items (moments entries)) entries o
+
+-- the order of a history's events is happens-before of those that belong to no mutex
+abbrev pub IsOrderWithoutMutexes : List Entry → Order → Type 0
+IsOrderWithoutMutexes entries o = TellsOrder (without_mutexes (items (moments entries))) entries o

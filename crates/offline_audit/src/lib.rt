@@ -4,6 +4,7 @@
 mod clock;
 mod heard;
 mod known;
+mod mutex;
 mod order;
 #[cfg(test)]
 mod tests;

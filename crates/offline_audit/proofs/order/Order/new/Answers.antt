@@ -12,7 +12,7 @@ use Rattle.offline_audit.proofs.order.Order.new.Goals as goal
 
 pub loop-entry-init : goal.loop-entry-init
 loop-entry-init c = (
-  nothing_stands c.args.history.now.entries c.new-known.result c.new-known.ensures.count c.new-known.ensures.steps c.new-known.ensures.places,
+  nothing_stands (items (moments c.args.history.now.entries)) c.args.history.now.entries c.new-known.result c.new-known.ensures.count c.new-known.ensures.steps c.new-known.ensures.places,
   (ap (λ (rows : List Row). length rows) c.new-rows.ensures.items, λ k x e d l. absurd (omega arith)),
   let q = c.new-known.ensures.count in omega arith,
 )
@@ -27,7 +27,7 @@ loop-entry-preserved c =
     let l = rw (c.deref-entry-items.ensures.value ∙ c.in_ok-entries.ensures) at c.loop-entry-test.true in
     let is = rw (c.deref-entry-items.ensures.value ∙ c.in_ok-entries.ensures) at c.entry-item.is in
     let listed : slice_get entries k ≡ Some e = slice_get_read entries (length entries) k e refl l is in
-    let at = start_stands entries k e l listed known c.loop-entry.invariant.0 in
+    let at = start_stands entries k e l listed h (λ n t v q. q) known c.loop-entry.invariant.0 in
     let after = c.in_ok-note_entry.ensures.stands h (events_before h) (start_of entries k e) (are_numbers h) (makes entries k e l listed) at in
     let next : k + 1 ≡ suc k = omega arith in
     let place = next_start entries k e l listed in
@@ -39,7 +39,7 @@ loop-entry-preserved c =
           (subst (λ (n : ℕ). Stands h (events_before h) n c.note_entry.new.known) (sym place) after),
       subst (λ (i : ℕ). AreRows (events_before h) entries i c.push.new.self.items) (sym next)
           (subst (λ (rows : List Row). AreRows (events_before h) entries (suc k) rows) (sym c.in_ok-push.ensures.items)
-          (rows_more entries k e l listed known c.loop-entry.rows.items few at c.loop-entry.invariant.1)),
+          (rows_more entries k e l listed known c.loop-entry.rows.items few at.count c.loop-entry.invariant.1)),
       let a = c.in_ok-note_entry.ensures.count in omega arith,
     )
 
