@@ -246,8 +246,7 @@ module _ (entries : List Entry) (k : ℕ) (e : Entry) (l : k < length entries) (
           (slice_index_or e.events x (Rattle.run_record.specs.declared.event.Event.TheVariants.Begin)) x (omega arith) in
           let place : events_before (items (moments entries)) (start_of entries k' e' + x) ≡ events_before (items (moments entries)) (start + x) =
           ap (λ (y : Entry). events_before (items (moments entries)) (start_of entries k' y + x)) (sym same)
-          ∙ ap (λ (i : ℕ). events_before (items (moments entries)) (start_of entries i e + x)) s in
-          (
+          ∙ ap (λ (i : ℕ). events_before (items (moments entries)) (start_of entries i e + x)) s in (
             ap (λ (y : Row). y.tid) seam ∙ ap (λ (y : Entry). y.tid) same,
             let f = ap (λ (y : Row). y.first) seam in omega arith,
             omega arith,

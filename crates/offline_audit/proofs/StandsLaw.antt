@@ -234,11 +234,11 @@ module _ (h : ℕ → Item) (number : ℕ → ℕ) (nums : AreNumbers h number) 
       record {
         count = count;
         places = λ y u i e f. (
-              λ p. subst (λ (x : ℕ). number i < x) (sym (places y u)) (elim (left_cases h n y i p) [
-                | inl (x, z) ↦ (st.places y u i e f).0 z
-                | inr (x, z) ↦ absurd (let c = sym x ∙ no_leaves (h n) y quiet in cc)
-              ]),
-              λ l. left_from h n y i (inl (no_empties (h n) y quiet, (st.places y u i e f).1 (subst (λ (x : ℕ). number i < x) (places y u) l))),
-            );
+          λ p. subst (λ (x : ℕ). number i < x) (sym (places y u)) (elim (left_cases h n y i p) [
+            | inl (x, z) ↦ (st.places y u i e f).0 z
+            | inr (x, z) ↦ absurd (let c = sym x ∙ no_leaves (h n) y quiet in cc)
+          ]),
+          λ l. left_from h n y i (inl (no_empties (h n) y quiet, (st.places y u i e f).1 (subst (λ (x : ℕ). number i < x) (places y u) l))),
+        );
         threads = λ t u d. subst (AreHeard h number (suc n) t u) (sym (steps t u)) (quiet_heard n t u (steps_between k.threads t u) (quiet t) (st.threads t u d));
       }

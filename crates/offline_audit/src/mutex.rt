@@ -11,13 +11,7 @@ fn events_to_come(event: &Event) -> u64
     ensures { result ≡ mutex_events event.now }
 {
     match *event {
-        Event::Lock { read, .. } => {
-            if read {
-                1
-            } else {
-                2
-            }
-        }
+        Event::Lock { read, .. } => { if read { 1 } else { 2 } }
         Event::Unlock { .. } => 1,
         _ => 0,
     }

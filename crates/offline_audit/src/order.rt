@@ -100,7 +100,7 @@ fn note_without(
         → Makes h n entry.now.tid entry.now.events → AreAwaited h n left.old
         → Stands (without_mutexes h) number n known.old
         → Stands (without_mutexes h) number (n + length entry.now.events) known.new
-            × AreAwaited h (n + length entry.now.events) left.new) }
+        × AreAwaited h (n + length entry.now.events) left.new) }
 {
     for event in entry.events.as_slice() {
         note_or_pass(alloc, known, left, entry.tid, event)?;

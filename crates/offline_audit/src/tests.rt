@@ -91,6 +91,39 @@ fn reached_from(alloc: Global, made: &[Made], i: usize) -> Result<Vec<usize>, No
     Ok(reached)
 }
 
+// How many of a thread's next events belong to a mutex that it takes or gives back by the event.
+fn events_to_come(event: &Event) -> u8 {
+    match *event {
+        Event::Lock { read: false, .. } => 2,
+        Event::Lock { read: true, .. } => 1,
+        Event::Unlock { .. } => 1,
+        _ => 0,
+    }
+}
+
+// Whether the event belongs to a mutex: whether one of its thread's last two events was a lock or an unlock, near enough.
+fn is_of_mutex(made: &[Made], i: usize, tid: u32) -> bool {
+    let mut last = 0;
+    let mut last_but_one = 0;
+    for (k, before) in made.iter().enumerate() {
+        if k < i && before.tid == tid {
+            last_but_one = last;
+            last = events_to_come(&before.event);
+        }
+    }
+    last >= 1 || last_but_one >= 2
+}
+
+fn without_mutexes(alloc: Global, made: &[Made]) -> Result<Vec<Made>, NoMemory> {
+    let mut kept = Vec::new(alloc);
+    for (i, one) in made.iter().enumerate() {
+        if !is_of_mutex(made, i, one.tid) {
+            kept.push(*one)?;
+        }
+    }
+    Ok(kept)
+}
+
 fn next(seed: u64) -> u64 {
     seed.wrapping_mul(6364136223846793005)
         .wrapping_add(1442695040888963407)
@@ -123,7 +156,7 @@ fn event_of(seed: u64) -> Event {
     let more = next(seed);
     let addr = if pick(more, 2) == 0 { 8 } else { 16 };
     let part = part_of(next(more));
-    match pick(seed, 11) {
+    match pick(seed, 13) {
         0 => Event::Begin,
         1 => Event::Create(tid_of(more)),
         2 => Event::End,
@@ -142,6 +175,11 @@ fn event_of(seed: u64) -> Event {
         },
         8 => Event::Clear { addr },
         9 => Event::Destroy { addr },
+        10 => Event::Lock {
+            addr,
+            read: pick(next(more), 2) == 0,
+        },
+        11 => Event::Unlock { addr, read: true },
         _ => Event::Leave,
     }
 }
@@ -204,14 +242,11 @@ fn random_history(alloc: Global, start: u64, made: &mut Vec<Made>) -> Result<Rec
 }
 
 // How many pairs of events come one before the other, by the order and by the closure, and how often these differ.
-fn compared(alloc: Global, start: u64) -> Result<(u64, u64), NoMemory> {
-    let mut made = Vec::new(alloc);
-    let history = random_history(alloc, start, &mut made)?;
-    let order = Order::new(alloc, &history)?;
+fn compared(alloc: Global, order: &Order, made: &[Made]) -> Result<(u64, u64), NoMemory> {
     let mut ordered = 0u64;
     let mut wrong = 0u64;
     for (i, first) in made.iter().enumerate() {
-        let reached = reached_from(alloc, made.as_slice(), i)?;
+        let reached = reached_from(alloc, made, i)?;
         for (j, second) in made.iter().enumerate() {
             let expected = i != j && reached.contains(&j);
             if expected {
@@ -225,11 +260,38 @@ fn compared(alloc: Global, start: u64) -> Result<(u64, u64), NoMemory> {
     Ok((ordered, wrong))
 }
 
+fn compared_all(alloc: Global, start: u64) -> Result<(u64, u64), NoMemory> {
+    let mut made = Vec::new(alloc);
+    let history = random_history(alloc, start, &mut made)?;
+    let order = Order::new(alloc, &history)?;
+    compared(alloc, &order, made.as_slice())
+}
+
+fn compared_without(alloc: Global, start: u64) -> Result<(u64, u64), NoMemory> {
+    let mut made = Vec::new(alloc);
+    let history = random_history(alloc, start, &mut made)?;
+    let order = Order::without_mutexes(alloc, &history)?;
+    let kept = without_mutexes(alloc, made.as_slice())?;
+    compared(alloc, &order, kept.as_slice())
+}
+
 #[test]
 fn an_order_is_the_closure(rt: HostRuntime) -> Result<(), Fail> {
     let mut all = 0u64;
     for start in 0..40u64 {
-        let (ordered, wrong) = compared(rt.alloc(), next(start))?;
+        let (ordered, wrong) = compared_all(rt.alloc(), next(start))?;
+        assert_eq!(rt; wrong, 0);
+        all = all.wrapping_add(ordered);
+    }
+    assert_eq!(rt; 1000 < all, true);
+    Ok(())
+}
+
+#[test]
+fn an_order_without_mutexes_is_the_closure(rt: HostRuntime) -> Result<(), Fail> {
+    let mut all = 0u64;
+    for start in 0..40u64 {
+        let (ordered, wrong) = compared_without(rt.alloc(), next(start))?;
         assert_eq!(rt; wrong, 0);
         all = all.wrapping_add(ordered);
     }

@@ -46,7 +46,7 @@ loop-entry-preserved c =
           (rows_more entries k e l listed known c.loop-entry.rows.items few at.count c.loop-entry.invariant.1)),
       let a = c.in_ok-note_without.ensures.count in omega arith,
       subst (λ (i : ℕ). AreAwaited h (length (moments (take i entries))) c.note_without.new.left) (sym next)
-      (subst (λ (n : ℕ). AreAwaited h n c.note_without.new.left) (sym place) after.1),
+          (subst (λ (n : ℕ). AreAwaited h n c.note_without.new.left) (sym place) after.1),
     )
 
 pub returns : goal.returns
