@@ -69,7 +69,8 @@ module _ (file : List ℕ) (limits : Limits) (era t : ℕ) where
       ap (λ (m : ℕ). record { steps = m; events = g.events; checks = g.checks; awaits = g.awaits }) e
 
   none_gathered : (g : Gathered) → g ≡ gathered_more g 0
-  none_gathered g = let e : g.steps ≡ g.steps + 0 = omega arith in ap (λ (m : ℕ). record { steps = m; events = g.events; checks = g.checks; awaits = g.awaits }) e
+  none_gathered g = let e : g.steps ≡ g.steps + 0 = omega arith in
+      ap (λ (m : ℕ). record { steps = m; events = g.events; checks = g.checks; awaits = g.awaits }) e
 
   -- one more
   plain_grows : (before : Stamped Hand) (log : Log) (told : List Tagged) (found now : Hand) (last : ℕ) (g : Gathered) (owed : Owing) (bare : Local) →
@@ -78,7 +79,8 @@ module _ (file : List ℕ) (limits : Limits) (era t : ℕ) where
   plain_grows before log told found now last g owed bare s present unspent p =
       subst (λ (h : Gathered). SoFar file limits era t before log told found (with_bare now bare) last h owed) (one_gathered g)
       (local_grows file limits era t before log log told found now (with_bare now bare) last g owed owed plain_made [] s (plain_is_local now bare present p)
-      (quiet_one file limits era t plain_made now (with_bare now bare) (plain_is_local now bare present p) refl) tt (sym (append-nil log)) (λ q. absurd (let r = p.without_need in cc)) unspent (pays_nothing now owed p.without_need))
+      (quiet_one file limits era t plain_made now (with_bare now bare) (plain_is_local now bare present p) refl) tt (sym (append-nil log))
+      (λ q. absurd (let r = p.without_need in cc)) unspent (pays_nothing now owed p.without_need))
 
   -- so many instructions that touch registers alone are gathered
   pub plain_grow : (before : Stamped Hand) (log : Log) (told : List Tagged) (found now : Hand) (last : ℕ) (g : Gathered) (owed : Owing) (n : ℕ)
