@@ -12,6 +12,7 @@ use Rattle.deed_histories.specs.Lines.{entries_of, IsHandDeed}
 use Rattle.deed_histories.proofs.Made.{zip_append}
 use Rattle.table_deeds.specs.Objects.{ObjectDeed, hand_deed, hand_deeds}
 use Rattle.hart_parts.specs.Parts.{IsStretch, IsNeedy}
+use Rattle.part_races.specs.Rounds.{Tagged, entries_tagged, TellsAwaited}
 use Rattle.part_growth.specs.Growth.{Owing, nothing, Meets, Owes, ArePaid}
 use Rattle.part_growth.proofs.Lists.{follow_push, last_push, each_push}
 
@@ -59,14 +60,41 @@ deeds_push file limits era t before deeds stretches left owing d items next a n 
   paid = paid_push file limits nothing deeds owing d next a.paid n.meets n.owes n.labelled;
 }
 
--- their entries, and the items of their stretches
-pub entries_push : (file : List ℕ) (limits : Limits) (deeds : List ObjectDeed) (d : ObjectDeed) (entries : List Entry) (e : Entry) →
+-- their entries
+entries_push : (file : List ℕ) (limits : Limits) (deeds : List ObjectDeed) (d : ObjectDeed) (entries : List Entry) (e : Entry) →
     entries ≡ entries_of (hand_deeds file limits deeds) → d.told.entry ≡ e → entries ++ e ∷ [] ≡ entries_of (hand_deeds file limits (deeds ++ d ∷ []))
 entries_push file limits [] d entries e are is = ap₂ (λ (es : List Entry) (x : Entry). es ++ x ∷ []) are (sym is)
 entries_push file limits (x ∷ xs) d entries e are is =
     ap (λ (es : List Entry). es ++ e ∷ []) are
     ∙ ap (λ (es : List Entry). x.told.entry ∷ es) (entries_push file limits xs d (entries_of (hand_deeds file limits xs)) e refl is)
 
+-- What was told of the deeds: their entries, and of each which accesses await.
+pub record AreTold (file : List ℕ) (limits : Limits) (era : ℕ) (deeds : List ObjectDeed) (told : List Tagged) : Type 0 where
+  pub entries : entries_tagged told ≡ entries_of (hand_deeds file limits deeds)
+  pub awaited : AllZip (TellsAwaited file limits era) (hand_deeds file limits deeds) told
+
+pub tagged_push : (told : List Tagged) (x : Tagged) → entries_tagged (told ++ x ∷ []) ≡ entries_tagged told ++ x.entry ∷ []
+tagged_push [] x = refl
+tagged_push (y ∷ ys) x = ap (λ (es : List Entry). y.entry ∷ es) (tagged_push ys x)
+
+awaited_push : (file : List ℕ) (limits : Limits) (era : ℕ) (deeds : List ObjectDeed) (d : ObjectDeed) (told : List Tagged) (x : Tagged) →
+    AllZip (TellsAwaited file limits era) (hand_deeds file limits deeds) told → TellsAwaited file limits era (hand_deed file limits d) x →
+    AllZip (TellsAwaited file limits era) (hand_deeds file limits (deeds ++ d ∷ [])) (told ++ x ∷ [])
+awaited_push file limits era [] d [] x z tells = (tells, tt)
+awaited_push file limits era [] d (y ∷ ys) x z tells = absurd z
+awaited_push file limits era (c ∷ cs) d [] x z tells = absurd z
+awaited_push file limits era (c ∷ cs) d (y ∷ ys) x z tells = (z.0, awaited_push file limits era cs d ys x z.1 tells)
+
+-- and of one more
+pub told_push : (file : List ℕ) (limits : Limits) (era : ℕ) (deeds : List ObjectDeed) (d : ObjectDeed) (told : List Tagged) (x : Tagged) →
+    AreTold file limits era deeds told → TellsAwaited file limits era (hand_deed file limits d) x →
+    AreTold file limits era (deeds ++ d ∷ []) (told ++ x ∷ [])
+told_push file limits era deeds d told x a tells = record {
+  entries = tagged_push told x ∙ entries_push file limits deeds d (entries_tagged told) x.entry a.entries (sym tells.entry);
+  awaited = awaited_push file limits era deeds d told x a.awaited tells;
+}
+
+-- the items of their stretches
 pub items_push : (stretches : List Log) (items : Log) →
     flat_map (λ (xs : Log). xs) (stretches ++ items ∷ []) ≡ flat_map (λ (xs : Log). xs) stretches ++ items
 items_push [] items = append-nil items

@@ -1,6 +1,6 @@
 -- A part ends: what was gathered last gets an entry of its own, and all is a part as it should be.
 use Rattle.std.proofs.Common.{◌≡◌, ◌≢◌, inl, inr, max, ℕ, suc, ◌+◌, ◌<◌, ◌≤◌, true, Option, Some, None, List, [], ◌∷◌, ◌++◌, length, append_assoc, append-nil, refl, ap, sym, subst, ◌∙◌, arith}
-use Rattle.std.specs.Prelude.{map, sum_by}
+use Rattle.std.specs.Prelude.{map, sum_by, is_some}
 use Rattle.std.specs.List.{flat_map}
 use Rattle.std.proofs.lemmas.List.Sums.{sum_by_push}
 use Rattle.run_record.specs.declared.limits.Limits.{Limits}
@@ -22,15 +22,17 @@ use Rattle.shared_table.specs.Past.{Log}
 use Rattle.placed_detector.specs.Standing.{Hand, Held}
 use Rattle.placed_detector.specs.Instructions.{MakesInstruction}
 use Rattle.deed_histories.specs.Deeds.{Made, all_checks, AreMade, TellsMade, Makes}
-use Rattle.deed_histories.specs.Lines.{entries_of}
-use Rattle.table_deeds.specs.Objects.{ObjectDeed, hand_deeds, held_in, last_in}
+use Rattle.table_deeds.specs.Objects.{ObjectDeed, held_in, last_in}
 use Rattle.hart_parts.specs.Parts.{Rest, Try, Part, at_last_object, left_in, rest_entries, part_entries, IsPrivate, restamped, rest_deed, rest_deeds, deeds_in, IsRest}
 use Rattle.hart_parts.specs.Parts.{all_touches, IsStretch, rest_touches, try_items, IsLogOf, after_steps, IsNeedy, SpendsIn, AreNoted, BeginsUnspent, steps_made}
 use Rattle.hart_parts.specs.Parts.{HasEnded, IsStarved, MakesGiven, IsPart}
+use Rattle.part_races.specs.Rounds.{Tagged, entries_tagged, TellsRest, TellsRaces}
+use Rattle.part_races.specs.Telling.{TellsPart}
 use Rattle.part_growth.specs.Growth.{Gathered, AreLocal, Owing, nothing, needy, leave_of, Meets, Owes, ArePaid, NeedsWithin, IsOwedWith}
-use Rattle.part_growth.specs.Growth.{IsEntryOf, SoFar, made_so_far, Starves, Stops, IsLastOf, with_last, stamp_with, IsFinished}
+use Rattle.part_growth.specs.Growth.{IsEntryOf, SoFar, made_so_far, Starves, Stops, IsLastOf, with_last, stamp_with}
 use Rattle.part_growth.proofs.Gathering.{none_raised}
-use Rattle.part_growth.proofs.Deeds.{paid_push}
+use Rattle.part_growth.proofs.Awaiting.{alone}
+use Rattle.part_growth.proofs.Deeds.{paid_push, tagged_push}
 use Rattle.part_growth.proofs.Needs.{none_within, alike}
 use Rattle.part_growth.proofs.Growing.{gathered_local}
 use Rattle.part_growth.proofs.Notes.{IsPlain, plain_made, all_plain, noted, unspent_first}
@@ -57,8 +59,8 @@ restamped_last : (limits : Limits) (x : Object) (n : ℕ) → IsPrivate limits x
 restamped_last limits (Stripe s) n p = refl
 restamped_last limits (Desk d) n p = absurd p
 
-module _ (file : List ℕ) (limits : Limits) (era t : ℕ) (before : Stamped Hand) (log : Log) (entries : List Entry) (found now : Hand) (last : ℕ) (g : Gathered)
-    (s : SoFar file limits era t before log entries found now last g nothing) where
+module _ (file : List ℕ) (limits : Limits) (era t : ℕ) (before : Stamped Hand) (log : Log) (told : List Tagged) (found now : Hand) (last : ℕ) (g : Gathered)
+    (s : SoFar file limits era t before log told found now last g nothing) where
   abbrev made : List Made
   made = s.gathered.made
 
@@ -123,6 +125,22 @@ module _ (file : List ℕ) (limits : Limits) (era t : ℕ) (before : Stamped Han
       entry_stamp = is.stamp_is;
     }
 
+    -- what is told of it: the gathered instructions' accesses await
+    abbrev rest_tagged : Tagged
+    rest_tagged = record { entry = e; awaited = g.awaits }
+
+    rest_told : TellsRest file limits era t (with_stamp found last) (Some rest) (rest_tagged ∷ [])
+    rest_told = (
+      rest_tagged,
+      refl,
+      λ x private early. record {
+        entry = refl;
+        awaits = alone file limits era t (desk + 1 + t) e (held_in file limits (desk + 1 + t) x).state
+            (held_in file limits (desk + 1 + t) (restamped x (last + 1))).state made found now g.awaits s.gathered.awaits
+            (restamped_keeps file limits (desk + 1 + t) x (last + 1) private) tells;
+      },
+    )
+
     rest_events : Each (λ (f : Event). is_local f ≡ true) e.events
     rest_events = subst (λ (es : List Event). Each (λ (f : Event). is_local f ≡ true) es) (sym is.events)
         (gathered_local file limits era t before found now g s.gathered)
@@ -162,7 +180,7 @@ module _ (file : List ℕ) (limits : Limits) (era t : ℕ) (before : Stamped Han
   -- ---- both
 
   module _ (given : ℕ) (new : Log) (tried : Option Try) (log_is : new ≡ log ++ try_items tried) (begun : now.given ≡ None)
-      (stops : Stops file limits t given (made_so_far entries g) now tried) where
+      (stops : Stops file limits t given (made_so_far told g) now tried) where
     abbrev part : Option Entry → Part
     part o = record { thread = t; given = given; before = before; deeds = s.deeds; rest = rest_of o; tried = tried; log = new }
 
@@ -170,17 +188,39 @@ module _ (file : List ℕ) (limits : Limits) (era t : ℕ) (before : Stamped Han
     left_is None none = s.found_is ∙ ap (λ (h : Hand). with_stamp h last) (same_now none)
     left_is (Some e) is = ap (λ (n : ℕ). with_stamp now (n + 1)) (ap (λ (h : Stamped Hand). h.last) s.found_is)
 
-    entries_are : (o : Option Entry) → IsLastOf t g last o → part_entries file limits (part o) ≡ with_last entries o
-    entries_are None none = append-nil (entries_of (hand_deeds file limits s.deeds)) ∙ sym s.entries_are
-    entries_are (Some e) is = ap (λ (es : List Entry). es ++ e ∷ []) (sym s.entries_are)
+    -- the entries, and what is told of them
+    entries_there : (o : Option Entry) → part_entries file limits (part o) ≡ entries_tagged told ++ rest_entries (rest_of o)
+    entries_there o = ap (λ (es : List Entry). es ++ rest_entries (rest_of o)) (sym s.entries_are)
 
-    steps_are : (o : Option Entry) → IsLastOf t g last o → steps_made file limits (part o) ≡ made_so_far entries g
+    entries_are : (o : Option Entry) → part_entries file limits (part o) ≡ entries_tagged (with_last told g.awaits o)
+    entries_are None = entries_there None ∙ append-nil (entries_tagged told)
+    entries_are (Some e) = entries_there (Some e) ∙ sym (tagged_push told (record { entry = e; awaited = g.awaits }))
+
+    abbrev behind : Option Entry → List Tagged
+    behind None = []
+    behind (Some e) = record { entry = e; awaited = g.awaits } ∷ []
+
+    all_told : (o : Option Entry) → with_last told g.awaits o ≡ told ++ behind o
+    all_told None = sym (append-nil told)
+    all_told (Some e) = refl
+
+    tells_rest : (o : Option Entry) → IsLastOf t g last o → TellsRest file limits era t (at_last_object (part o)) (rest_of o) (behind o)
+    tells_rest None none = refl
+    tells_rest (Some e) is = subst (λ (h : Stamped Hand). TellsRest file limits era t h (rest_of (Some e)) (behind (Some e))) (sym s.found_is)
+        (rest_told e is.0 is.1)
+
+    tells_races : (o : Option Entry) → IsLastOf t g last o → TellsRaces file limits era (part o) (with_last told g.awaits o)
+    tells_races o is = record { at_objects = told; behind = behind o; all = all_told o; deeds = s.awaited; rest = tells_rest o is }
+
+    steps_are : (o : Option Entry) → IsLastOf t g last o → steps_made file limits (part o) ≡ made_so_far told g
     steps_are None none =
-        ap (λ (es : List Entry). sum_by (λ (e : Entry). e.steps) es) (entries_are None none)
-        ∙ (let r : sum_by (λ (e : Entry). e.steps) entries ≡ sum_by (λ (e : Entry). e.steps) entries + g.steps = omega (arith, none) in r)
+        let es = entries_tagged told in
+        ap (λ (es : List Entry). sum_by (λ (e : Entry). e.steps) es) (entries_there None ∙ append-nil es)
+        ∙ (let r : sum_by (λ (e : Entry). e.steps) es ≡ sum_by (λ (e : Entry). e.steps) es + g.steps = omega (arith, none) in r)
     steps_are (Some e) is =
-        ap (λ (es : List Entry). sum_by (λ (e : Entry). e.steps) es) (entries_are (Some e) is)
-        ∙ (sum_by_push (λ (f : Entry). f.steps) entries e ∙ ap (λ (n : ℕ). sum_by (λ (f : Entry). f.steps) entries + n) is.1.steps)
+        let es = entries_tagged told in
+        ap (λ (es : List Entry). sum_by (λ (e : Entry). e.steps) es) (entries_there (Some e))
+        ∙ (sum_by_push (λ (f : Entry). f.steps) es e ∙ ap (λ (n : ℕ). sum_by (λ (f : Entry). f.steps) es + n) is.1.steps)
 
     is_rest : (o : Option Entry) → IsLastOf t g last o → IsRest file limits era t (at_last_object (part o)) (rest_of o)
     is_rest None none = tt
@@ -265,7 +305,7 @@ module _ (file : List ℕ) (limits : Limits) (era t : ℕ) (before : Stamped Han
     }
 
     pub finished : (o : Option Entry) → IsLastOf t g last o →
-        IsFinished file limits era t given before new (with_last entries o) (with_stamp now (stamp_with last o))
+        TellsPart file limits era t given before new (with_last told g.awaits o) (is_some tried) (with_stamp now (stamp_with last o))
     finished o is = record {
       part = part o;
       is_part = is_part o is;
@@ -274,14 +314,16 @@ module _ (file : List ℕ) (limits : Limits) (era t : ℕ) (before : Stamped Han
       given_is = refl;
       log_is = refl;
       left_is = left_is o is;
-      entries_are = entries_are o is;
+      entries_are = entries_are o;
+      tried_is = refl;
+      races = tells_races o is;
     }
 
 -- A part ends, where nothing is owed any more: with an entry of what was gathered last, if it is anything, and with the turn of the desk that
 -- found no slot, if it made one.
-pub finish : (file : List ℕ) (limits : Limits) (era t : ℕ) (before : Stamped Hand) (log new : Log) (entries : List Entry) (found now : Hand) (last : ℕ)
-    (g : Gathered) (given : ℕ) (tried : Option Try) (o : Option Entry) → SoFar file limits era t before log entries found now last g nothing →
-    IsLastOf t g last o → new ≡ log ++ try_items tried → now.given ≡ None → Stops file limits t given (made_so_far entries g) now tried →
-    IsFinished file limits era t given before new (with_last entries o) (with_stamp now (stamp_with last o))
-finish file limits era t before log new entries found now last g given tried o s is log_is begun stops =
-    finished file limits era t before log entries found now last g s given new tried log_is begun stops o is
+pub finish : (file : List ℕ) (limits : Limits) (era t : ℕ) (before : Stamped Hand) (log new : Log) (told : List Tagged) (found now : Hand) (last : ℕ)
+    (g : Gathered) (given : ℕ) (tried : Option Try) (o : Option Entry) → SoFar file limits era t before log told found now last g nothing →
+    IsLastOf t g last o → new ≡ log ++ try_items tried → now.given ≡ None → Stops file limits t given (made_so_far told g) now tried →
+    TellsPart file limits era t given before new (with_last told g.awaits o) (is_some tried) (with_stamp now (stamp_with last o))
+finish file limits era t before log new told found now last g given tried o s is log_is begun stops =
+    finished file limits era t before log told found now last g s given new tried log_is begun stops o is

@@ -11,6 +11,7 @@ use Rattle.run_record.specs.declared.entry.Entry.{Entry}
 use Rattle.run_record.specs.declared.entry.Label.{Label}
 use Rattle.bare_machine.specs.Step.{desk}
 use Rattle.bare_machine.specs.Preview.{thread_needs}
+use Rattle.report_laws.specs.Awaited.{Awaited}
 use Rattle.turn_orders.specs.Lists.{Each}
 use Rattle.turn_orders.specs.LineUp.{Stamped, with_stamp}
 use Rattle.place_turns.specs.Places.{Value, of_nobody}
@@ -21,18 +22,21 @@ use Rattle.turn_histories.specs.Entries.{IsAlive, IsPlaceOf, next_object}
 use Rattle.shared_table.specs.declared.object.Object.{Object}
 use Rattle.shared_table.specs.declared.view.Item.TheVariants.{Take, Give}
 use Rattle.shared_table.specs.Past.{Log}
-use Rattle.placed_detector.specs.Standing.{Hand}
-use Rattle.placed_detector.specs.Instructions.{MakesInstruction}
+use Rattle.placed_detector.specs.Standing.{Hand, Held}
 use Rattle.deed_histories.specs.Deeds.{Made, all_checks, AreNumbered, TellsMade, Makes}
-use Rattle.deed_histories.specs.Lines.{entries_of, IsHandDeed}
-use Rattle.table_deeds.specs.Objects.{ObjectDeed, hand_deed, hand_deeds, held_in}
+use Rattle.deed_histories.specs.Lines.{IsHandDeed}
+use Rattle.table_deeds.specs.Objects.{ObjectDeed, hand_deed, held_in}
 use Rattle.hart_parts.specs.Parts.{IsStretch, all_touches, touches_of, IsNeedy, SpendsIn}
+use Rattle.part_races.specs.Awaits.{AwaitsInstruction}
+use Rattle.part_races.specs.Rounds.{Tagged, TellsAwaited}
+use Rattle.part_races.proofs.Growing.{one_more_gathered}
 use Rattle.part_growth.specs.Growth.{checks_in, Gathered, nothing_gathered, MakesLocal, IsGathered, gathered_with, Owing, nothing, needy, leave_of, Meets, Owes, IsPaidBy}
 use Rattle.part_growth.specs.Growth.{NeedsWithin, IsOwedWith, SpendsBy, IsOwedBy, IsEntryWith, SoFar, place_in, IsTurn}
 use Rattle.part_growth.proofs.Lists.{events_push, checks_push, numbered_append, before_end, from_start, last_of}
 use Rattle.turn_orders.proofs.Members.{at_member}
 use Rattle.part_growth.proofs.Gathering.{many_checks, all_local, local_push, made_before, none_raised}
-use Rattle.part_growth.proofs.Deeds.{AreDeeds, IsNextDeed, deeds_push, entries_push, items_push}
+use Rattle.part_growth.proofs.Awaiting.{with_one}
+use Rattle.part_growth.proofs.Deeds.{AreDeeds, IsNextDeed, AreTold, deeds_push, told_push, items_push}
 use Rattle.part_growth.proofs.Needs.{none_within, now_label, label_there, owed_after, now_bare}
 
 checks_append : (css dss : List (List Check)) → checks_in (css ++ dss) ≡ checks_in css ++ checks_in dss
@@ -43,10 +47,10 @@ touches_append cs ds = flat_map-append touches_of cs ds
 
 module _ (file : List ℕ) (limits : Limits) (era t : ℕ) (before : Stamped Hand) where
   -- the deeds of a part so far
-  pub deeds_of : (log : Log) (entries : List Entry) (found now : Hand) (last : ℕ) (g : Gathered) (owed : Owing) →
-      (s : SoFar file limits era t before log entries found now last g owed) →
+  pub deeds_of : (log : Log) (told : List Tagged) (found now : Hand) (last : ℕ) (g : Gathered) (owed : Owing) →
+      (s : SoFar file limits era t before log told found now last g owed) →
       AreDeeds file limits era t before s.deeds s.stretches (with_stamp found last) s.owing
-  deeds_of log entries found now last g owed s = record {
+  deeds_of log told found now last g owed s = record {
     mine = s.mine;
     at_objects = s.at_objects;
     each = s.each;
@@ -56,16 +60,21 @@ module _ (file : List ℕ) (limits : Limits) (era t : ℕ) (before : Stamped Han
     paid = s.paid;
   }
 
+  -- and what was told of them
+  pub told_of : (log : Log) (told : List Tagged) (found now : Hand) (last : ℕ) (g : Gathered) (owed : Owing) →
+      (s : SoFar file limits era t before log told found now last g owed) → AreTold file limits era s.deeds told
+  told_of log told found now last g owed s = record { entries = s.entries_are; awaited = s.awaited }
+
   -- after a deed nothing is gathered
   owed_anew : (left : Hand) (owing : Owing) → IsOwedWith file limits.harts t left nothing_gathered owing owing
   owed_anew left nothing = refl
   owed_anew left needy = inl refl
   owed_anew left (leave_of l) = (refl, refl)
 
-  pub anew : (log : Log) (entries : List Entry) (deeds : List ObjectDeed) (stretches : List Log) (left : Hand) (last : ℕ) (owing : Owing) →
+  pub anew : (log : Log) (told : List Tagged) (deeds : List ObjectDeed) (stretches : List Log) (left : Hand) (last : ℕ) (owing : Owing) →
       AreDeeds file limits era t before deeds stretches (with_stamp left last) owing → log ≡ flat_map (λ (items : Log). items) stretches →
-      entries ≡ entries_of (hand_deeds file limits deeds) → SoFar file limits era t before log entries left left last nothing_gathered owing
-  anew log entries deeds stretches left last owing a log_is are = record {
+      AreTold file limits era deeds told → SoFar file limits era t before log told left left last nothing_gathered owing
+  anew log told deeds stretches left last owing a log_is tells = record {
     deeds = deeds;
     stretches = stretches;
     mine = a.mine;
@@ -75,8 +84,9 @@ module _ (file : List ℕ) (limits : Limits) (era t : ℕ) (before : Stamped Han
     found_is = a.left_is;
     along = a.along;
     log_is = log_is ∙ sym (append-nil (flat_map (λ (items : Log). items) stretches));
-    entries_are = are;
-    gathered = record { made = []; local = refl; steps = refl; events = refl; checks = refl; numbered = tt };
+    entries_are = tells.entries;
+    awaited = tells.awaited;
+    gathered = record { made = []; local = refl; steps = refl; events = refl; checks = refl; numbered = tt; awaits = (refl, refl) };
     owing = owing;
     paid = a.paid;
     owed_with = owed_anew left owing;
@@ -86,7 +96,8 @@ module _ (file : List ℕ) (limits : Limits) (era t : ℕ) (before : Stamped Han
   -- a part begins
   pub begins_so_far : SoFar file limits era t before [] [] before.state before.state before.last nothing_gathered nothing
   begins_so_far = anew [] [] [] [] before.state before.last nothing
-      (record { mine = tt; at_objects = tt; each = tt; follow = tt; left_is = refl; along = tt; paid = refl }) refl refl
+      (record { mine = tt; at_objects = tt; each = tt; follow = tt; left_is = refl; along = tt; paid = refl }) refl
+      (record { entries = refl; awaited = tt })
 
   -- ---- what was gathered
 
@@ -105,9 +116,10 @@ module _ (file : List ℕ) (limits : Limits) (era t : ℕ) (before : Stamped Han
         let e : length g.events ≡ 0 + length (all_checks is.made) = let q = gathered_many in omega (arith, q) in
         numbered_append 0 (all_checks is.made) css is.numbered (subst (λ (m : ℕ). AreNumbered m css) e n)
 
-    pub gather : (x : Made) (left : Hand) → MakesLocal file limits.harts era t x now left → AreNumbered (length g.events) x.checks →
-        IsGathered file limits.harts era t found left (gathered_with g x.events x.checks)
-    gather x left m n = record {
+    pub gather : (x : Made) (left : Hand) (later : List Awaited) → MakesLocal file limits.harts era t x now left →
+        ((k : ℕ) (held : Held) → AwaitsInstruction file limits.harts era t k x now left held held later) → AreNumbered (length g.events) x.checks →
+        IsGathered file limits.harts era t found left (gathered_with g x.events x.checks later)
+    gather x left later m await n = record {
       made = is.made ++ x ∷ [];
       local = local_push file limits era t is.made x found now left is.local m;
       steps = let q = is.steps in let p = length-append is.made (x ∷ []) in
@@ -116,16 +128,18 @@ module _ (file : List ℕ) (limits : Limits) (era t : ℕ) (before : Stamped Han
       checks = ap (λ (cs : List Check). cs ++ checks_in x.checks) is.checks
           ∙ (sym (checks_append (all_checks is.made) x.checks) ∙ ap checks_in (sym (checks_push is.made x)));
       numbered = subst (AreNumbered 0) (sym (checks_push is.made x)) (numbered_with x.checks n);
+      awaits = one_more_gathered file limits.harts era t is.made x found now left g.awaits later is.awaits await;
     }
 
   -- one more instruction without an object is gathered
-  pub local_grows : (log new : Log) (entries : List Entry) (found now left : Hand) (last : ℕ) (g : Gathered) (owed next : Owing) (x : Made) →
-      SoFar file limits era t before log entries found now last g owed → MakesLocal file limits.harts era t x now left →
+  pub local_grows : (log new : Log) (told : List Tagged) (found now left : Hand) (last : ℕ) (g : Gathered) (owed next : Owing) (x : Made)
+      (later : List Awaited) → SoFar file limits era t before log told found now last g owed → MakesLocal file limits.harts era t x now left →
+      ((k : ℕ) (held : Held) → AwaitsInstruction file limits.harts era t k x now left held held later) →
       AreNumbered (length g.events) x.checks → new ≡ log ++ all_touches (checks_in x.checks) →
       (thread_needs file t now.bare.thread ≡ true → now.watched.label ≢ None) → ((l : Label) → owed ≡ leave_of l → ⊥) → IsPaidBy file t now owed next →
-      SoFar file limits era t before new entries found left last (gathered_with g x.events x.checks) next
-  local_grows log new entries found now left last g owed next x s m n log_is label unspent paid =
-      let h = gathered_with g x.events x.checks in
+      SoFar file limits era t before new told found left last (gathered_with g x.events x.checks later) next
+  local_grows log new told found now left last g owed next x later s m await n log_is label unspent paid =
+      let h = gathered_with g x.events x.checks later in
       let longer : g.steps < h.steps = omega arith in
       record {
         deeds = s.deeds;
@@ -142,7 +156,8 @@ module _ (file : List ℕ) (limits : Limits) (era t : ℕ) (before : Stamped Han
             ∙ (append_assoc items (all_touches g.checks) (all_touches (checks_in x.checks))
             ∙ ap (λ (l : Log). items ++ l) (sym (touches_append g.checks (checks_in x.checks)))));
         entries_are = s.entries_are;
-        gathered = gather found now g s.gathered x left m n;
+        awaited = s.awaited;
+        gathered = gather found now g s.gathered x left later m await n;
         owing = s.owing;
         paid = s.paid;
         owed_with = owed_after file limits era t found now g s.gathered h longer s.owing owed next unspent s.owed_with paid;
@@ -152,7 +167,7 @@ module _ (file : List ℕ) (limits : Limits) (era t : ℕ) (before : Stamped Han
   -- ---- an instruction at an object
 
   module _ (found now : Hand) (last : ℕ) (g : Gathered) (is : IsGathered file limits.harts era t found now g) (k : ℕ) (loads : Loads) (es : List Event)
-      (css : List (List Check)) (left : Hand) (x y : Object) (e : Entry) (stamp : ℕ) where
+      (css : List (List Check)) (later : List Awaited) (left : Hand) (x y : Object) (e : Entry) (stamp : ℕ) where
     abbrev one : Made
     one = record { loads = loads; events = es; checks = css }
 
@@ -252,19 +267,30 @@ module _ (file : List ℕ) (limits : Limits) (era t : ℕ) (before : Stamped Han
         greatest = o.greatest;
       }
 
-      module _ (log new : Log) (entries : List Entry) (owed next : Owing) (number : ℕ)
-          (s : SoFar file limits era t before log entries found now last g owed)
-          (makes : MakesInstruction file limits.harts era t k loads es css now left (place_in file limits k x) (place_in file limits k y))
+      module _ (log new : Log) (told : List Tagged) (owed next : Owing) (number : ℕ)
+          (s : SoFar file limits era t before log told found now last g owed)
+          (awaits : AwaitsInstruction file limits.harts era t k one now left (place_in file limits k x) (place_in file limits k y) later)
           (alive : IsAlive now.bare) (at : IsPlaceOf k t (next_object file t now.bare.thread)) (at_object : k ≤ desk)
           (turn : IsTurn k log new number (all_touches (checks_in css)) x y last stamp)
           (label : thread_needs file t now.bare.thread ≡ true → now.watched.label ≢ None)
           (unspent : (l : Label) → owed ≡ leave_of l → ⊥) (paid : IsPaidBy file t now owed nothing) (owing : IsOwedBy limits now.watched es next) where
         is_deed : IsHandDeed file limits era (hand_deed file limits made_deed)
         is_deed = record {
-          deed = Makes (is.made ++ one ∷ []) (made_before file limits era t k is.made one found now left _ _ is.local (makes, alive, at)) tells_made;
+          deed = Makes (is.made ++ one ∷ []) (made_before file limits era t k is.made one found now left _ _ is.local (awaits.makes, alive, at)) tells_made;
           drawn = turn.stamp_is;
           left_there = turn.left_there;
           entry_stamp = tells.stamp_is;
+        }
+
+        -- what is told of it
+        abbrev made_told : Tagged
+        made_told = record { entry = e; awaited = g.awaits ++ later }
+
+        tells_awaited : TellsAwaited file limits era (hand_deed file limits made_deed) made_told
+        tells_awaited = record {
+          entry = refl;
+          awaits = with_one file limits era t k e (place_in file limits k x) (place_in file limits k y) is.made one found now left g.awaits later
+              is.awaits awaits tells_made;
         }
 
         next_deed : IsNextDeed file limits era t (with_stamp found last) s.owing made_deed (made_stretch number) next
@@ -282,7 +308,7 @@ module _ (file : List ℕ) (limits : Limits) (era t : ℕ) (before : Stamped Han
 
         deeds : AreDeeds file limits era t before (s.deeds ++ made_deed ∷ []) (s.stretches ++ made_stretch number ∷ []) (with_stamp left stamp) next
         deeds = deeds_push file limits era t before s.deeds s.stretches (with_stamp found last) s.owing made_deed (made_stretch number) next
-            (deeds_of log entries found now last g owed s) next_deed
+            (deeds_of log told found now last g owed s) next_deed
 
         log_with : new ≡ flat_map (λ (items : Log). items) (s.stretches ++ made_stretch number ∷ [])
         log_with =
@@ -291,21 +317,21 @@ module _ (file : List ℕ) (limits : Limits) (era t : ℕ) (before : Stamped Han
             turn.log ∙ (ap (λ (l : Log). l ++ turned) s.log_is
             ∙ (append_assoc items (all_touches g.checks) turned ∙ sym (items_push s.stretches (made_stretch number))))
 
-        grows : SoFar file limits era t before new (entries ++ e ∷ []) left left stamp nothing_gathered next
-        grows = anew new (entries ++ e ∷ []) (s.deeds ++ made_deed ∷ []) (s.stretches ++ made_stretch number ∷ []) left stamp next deeds log_with
-            (entries_push file limits s.deeds made_deed entries e s.entries_are refl)
+        grows : SoFar file limits era t before new (told ++ made_told ∷ []) left left stamp nothing_gathered next
+        grows = anew new (told ++ made_told ∷ []) (s.deeds ++ made_deed ∷ []) (s.stretches ++ made_stretch number ∷ []) left stamp next deeds log_with
+            (told_push file limits era s.deeds made_deed told made_told (told_of log told found now last g owed s) tells_awaited)
 
   -- one more instruction, at an object: all that were gathered and it are a deed
-  pub object_grows : (log new : Log) (entries : List Entry) (found now left : Hand) (last : ℕ) (g : Gathered) (owed next : Owing) (k : ℕ) (loads : Loads)
-      (es : List Event) (css : List (List Check)) (x y : Object) (e : Entry) (stamp number : ℕ) →
-      SoFar file limits era t before log entries found now last g owed →
-      MakesInstruction file limits.harts era t k loads es css now left (place_in file limits k x) (place_in file limits k y) → IsAlive now.bare →
-      IsPlaceOf k t (next_object file t now.bare.thread) → k ≤ desk → AreNumbered (length g.events) css →
-      IsTurn k log new number (all_touches (checks_in css)) x y last stamp → IsEntryWith t g es css stamp e →
+  pub object_grows : (log new : Log) (told : List Tagged) (found now left : Hand) (last : ℕ) (g : Gathered) (owed next : Owing) (k : ℕ) (loads : Loads)
+      (es : List Event) (css : List (List Check)) (later : List Awaited) (x y : Object) (e : Entry) (stamp number : ℕ) →
+      SoFar file limits era t before log told found now last g owed →
+      AwaitsInstruction file limits.harts era t k (record { loads = loads; events = es; checks = css }) now left (place_in file limits k x)
+      (place_in file limits k y) later → IsAlive now.bare → IsPlaceOf k t (next_object file t now.bare.thread) → k ≤ desk →
+      AreNumbered (length g.events) css → IsTurn k log new number (all_touches (checks_in css)) x y last stamp → IsEntryWith t g es css stamp e →
       (thread_needs file t now.bare.thread ≡ true → now.watched.label ≢ None) → ((l : Label) → owed ≡ leave_of l → ⊥) → IsPaidBy file t now owed nothing →
-      IsOwedBy limits now.watched es next → SoFar file limits era t before new (entries ++ e ∷ []) left left stamp nothing_gathered next
-  object_grows log new entries found now left last g owed next k loads es css x y e stamp number s makes alive at at_object numbered turn tells label
+      IsOwedBy limits now.watched es next →
+      SoFar file limits era t before new (told ++ record { entry = e; awaited = g.awaits ++ later } ∷ []) left left stamp nothing_gathered next
+  object_grows log new told found now left last g owed next k loads es css later x y e stamp number s awaits alive at at_object numbered turn tells label
       unspent paid owing =
-      grows found now last g s.gathered k loads es css left x y e stamp tells numbered log new entries owed next number s makes alive at at_object
-      turn label unspent
-      paid owing
+      grows found now last g s.gathered k loads es css later left x y e stamp tells numbered log new told owed next number s awaits alive at at_object
+      turn label unspent paid owing

@@ -1,5 +1,6 @@
 pub mod Lists
 pub mod Gathering
+pub mod Awaiting
 pub mod Deeds
 pub mod Needs
 pub mod Growing
@@ -10,3 +11,4 @@ pub mod Plain
 pub mod Alone
 pub mod Spending
 pub mod Order
+pub mod Owed

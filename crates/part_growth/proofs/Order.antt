@@ -11,6 +11,7 @@ use Rattle.entry_calls.specs.declared.call.AtomicOp.{AtomicOp}
 use Rattle.entry_calls.specs.declared.call.AtomicOp.TheVariants as ops
 use Rattle.entry_calls.specs.declared.call.Outcome.{Outcome}
 use Rattle.entry_calls.specs.Effects.{acquires, releases, only_if, loading, changing, atomic_events, full, events_by}
+use Rattle.turn_orders.specs.Lists.{Each}
 use Rattle.bare_machine.specs.declared.thread.Thread.{Thread}
 use Rattle.bare_machine.specs.Requests.{Request, done, returned, touch, operate, put, create, join, stop, request}
 use Rattle.bare_machine.specs.Step.{first_events, outcome, minus}
@@ -121,3 +122,15 @@ pub quiet_before : (file : List ℕ) (harts t : ℕ) (found : Local) (v : Value)
     bare_turn file harts t steps found v ≡ left → left.told ≡ before ++ event ∷ (next ∷ after) → (raises event ≡ 0) × (is_end event ≡ false)
 quiet_before file harts t found v left before after event next turned told =
     quiet_at before after event next (subst QuietFirst (ap (λ (r : Turned). r.told) turned ∙ told) (stepped_quiet file harts t found v found.thread))
+
+each_quiet : (before : List Event) (event : Event) → QuietFirst (before ++ event ∷ []) → Each (λ (e : Event). (raises e ≡ 0) × (is_end e ≡ false)) before
+each_quiet [] event q = tt
+each_quiet (x ∷ []) event q = ((q.0, q.1), tt)
+each_quiet (x ∷ (y ∷ ys)) event q = ((q.0, q.1), each_quiet (y ∷ ys) event q.2)
+
+-- So it is of all before the last one.
+pub quiet_until : (file : List ℕ) (harts t : ℕ) (found : Local) (v : Value) (left : Turned) (before : List Event) (event : Event) →
+    bare_turn file harts t steps found v ≡ left → left.told ≡ before ++ event ∷ [] →
+    Each (λ (e : Event). (raises e ≡ 0) × (is_end e ≡ false)) before
+quiet_until file harts t found v left before event turned told =
+    each_quiet before event (subst QuietFirst (ap (λ (r : Turned). r.told) turned ∙ told) (stepped_quiet file harts t found v found.thread))

@@ -5,8 +5,8 @@ use Rattle.run_record.specs.declared.event.Event.TheVariants.{Begin}
 use Rattle.run_record.specs.declared.limits.Limits.{Limits}
 use Rattle.run_record.specs.declared.event.Event.{Event}
 use Rattle.run_record.specs.declared.entry.Check.{Check}
-use Rattle.run_record.specs.declared.entry.Entry.{Entry}
 use Rattle.run_record.specs.declared.entry.Label.{Label}
+use Rattle.report_laws.specs.Awaited.{Awaited}
 use Rattle.rv_exec.specs.Registers.{Registers}
 use Rattle.guest_code.specs.Locals.{local, locals}
 use Rattle.bare_machine.specs.declared.thread.Thread.{Thread}
@@ -23,7 +23,9 @@ use Rattle.turn_histories.specs.Entries.{next_object}
 use Rattle.shared_table.specs.Past.{Log}
 use Rattle.placed_detector.specs.Standing.{Hand}
 use Rattle.deed_histories.specs.Deeds.{Made}
+use Rattle.part_races.specs.Rounds.{Tagged}
 use Rattle.part_growth.specs.Growth.{Gathered, MakesLocal, gathered_with, IsPlain, ArePlain, with_bare, gathered_more, Owing, nothing, needy, leave_of, IsPaidBy, SoFar}
+use Rattle.part_growth.proofs.Awaiting.{quiet_one}
 use Rattle.part_growth.proofs.Growing.{local_grows}
 
 -- an instruction without events or checks
@@ -57,38 +59,41 @@ module _ (file : List ℕ) (limits : Limits) (era t : ℕ) where
   pays_nothing now needy without = inl (refl, λ q. absurd (let r = without in cc))
   pays_nothing now (leave_of l) without = refl
 
-  one_gathered : (g : Gathered) → gathered_with g [] [] ≡ gathered_more g 1
-  one_gathered g = ap₂ (λ (es : List Event) (cs : List Check). record { steps = g.steps + 1; events = es; checks = cs })
+  one_gathered : (g : Gathered) → gathered_with g [] [] [] ≡ gathered_more g 1
+  one_gathered g = ap₂ (λ (es : List Event) (cs : List Check). record { steps = g.steps + 1; events = es; checks = cs; awaits = g.awaits ++ [] })
       (append-nil g.events) (append-nil g.checks)
+      ∙ ap (λ (ws : List Awaited). record { steps = g.steps + 1; events = g.events; checks = g.checks; awaits = ws }) (append-nil g.awaits)
 
   more_gathered : (g : Gathered) (n : ℕ) → gathered_more (gathered_more g n) 1 ≡ gathered_more g (suc n)
   more_gathered g n = let e : g.steps + n + 1 ≡ g.steps + suc n = omega arith in
-      ap (λ (m : ℕ). record { steps = m; events = g.events; checks = g.checks }) e
+      ap (λ (m : ℕ). record { steps = m; events = g.events; checks = g.checks; awaits = g.awaits }) e
 
   none_gathered : (g : Gathered) → g ≡ gathered_more g 0
-  none_gathered g = let e : g.steps ≡ g.steps + 0 = omega arith in ap (λ (m : ℕ). record { steps = m; events = g.events; checks = g.checks }) e
+  none_gathered g = let e : g.steps ≡ g.steps + 0 = omega arith in
+      ap (λ (m : ℕ). record { steps = m; events = g.events; checks = g.checks; awaits = g.awaits }) e
 
   -- one more
-  plain_grows : (before : Stamped Hand) (log : Log) (entries : List Entry) (found now : Hand) (last : ℕ) (g : Gathered) (owed : Owing) (bare : Local) →
-      SoFar file limits era t before log entries found now last g owed → now.watched.era ≡ era → ((l : Label) → owed ≡ leave_of l → ⊥) →
-      IsPlain file limits.harts t now.bare bare → SoFar file limits era t before log entries found (with_bare now bare) last (gathered_more g 1) owed
-  plain_grows before log entries found now last g owed bare s present unspent p =
-      subst (λ (h : Gathered). SoFar file limits era t before log entries found (with_bare now bare) last h owed) (one_gathered g)
-      (local_grows file limits era t before log log entries found now (with_bare now bare) last g owed owed plain_made s (plain_is_local now bare present p) tt
-      (sym (append-nil log)) (λ q. absurd (let r = p.without_need in cc)) unspent (pays_nothing now owed p.without_need))
+  plain_grows : (before : Stamped Hand) (log : Log) (told : List Tagged) (found now : Hand) (last : ℕ) (g : Gathered) (owed : Owing) (bare : Local) →
+      SoFar file limits era t before log told found now last g owed → now.watched.era ≡ era → ((l : Label) → owed ≡ leave_of l → ⊥) →
+      IsPlain file limits.harts t now.bare bare → SoFar file limits era t before log told found (with_bare now bare) last (gathered_more g 1) owed
+  plain_grows before log told found now last g owed bare s present unspent p =
+      subst (λ (h : Gathered). SoFar file limits era t before log told found (with_bare now bare) last h owed) (one_gathered g)
+      (local_grows file limits era t before log log told found now (with_bare now bare) last g owed owed plain_made [] s (plain_is_local now bare present p)
+      (quiet_one file limits era t plain_made now (with_bare now bare) (plain_is_local now bare present p) refl) tt (sym (append-nil log))
+      (λ q. absurd (let r = p.without_need in cc)) unspent (pays_nothing now owed p.without_need))
 
   -- so many instructions that touch registers alone are gathered
-  pub plain_grow : (before : Stamped Hand) (log : Log) (entries : List Entry) (found now : Hand) (last : ℕ) (g : Gathered) (owed : Owing) (n : ℕ)
+  pub plain_grow : (before : Stamped Hand) (log : Log) (told : List Tagged) (found now : Hand) (last : ℕ) (g : Gathered) (owed : Owing) (n : ℕ)
       (bare : Local) →
-      SoFar file limits era t before log entries found now last g owed → now.watched.era ≡ era → ((l : Label) → owed ≡ leave_of l → ⊥) →
-      ArePlain file limits.harts t n now.bare bare → SoFar file limits era t before log entries found (with_bare now bare) last (gathered_more g n) owed
-  plain_grow before log entries found now last g owed zero bare s present unspent p =
-      subst (λ (b : Local). SoFar file limits era t before log entries found (with_bare now b) last (gathered_more g 0) owed) p
-      (subst (λ (h : Gathered). SoFar file limits era t before log entries found now last h owed) (none_gathered g) s)
-  plain_grow before log entries found now last g owed (suc n) bare s present unspent p =
-      subst (λ (h : Gathered). SoFar file limits era t before log entries found (with_bare now bare) last h owed) (more_gathered g n)
-      (plain_grows before log entries found (with_bare now p.0) last (gathered_more g n) owed bare
-      (plain_grow before log entries found now last g owed n p.0 s present unspent p.1) present unspent p.2)
+      SoFar file limits era t before log told found now last g owed → now.watched.era ≡ era → ((l : Label) → owed ≡ leave_of l → ⊥) →
+      ArePlain file limits.harts t n now.bare bare → SoFar file limits era t before log told found (with_bare now bare) last (gathered_more g n) owed
+  plain_grow before log told found now last g owed zero bare s present unspent p =
+      subst (λ (b : Local). SoFar file limits era t before log told found (with_bare now b) last (gathered_more g 0) owed) p
+      (subst (λ (h : Gathered). SoFar file limits era t before log told found now last h owed) (none_gathered g) s)
+  plain_grow before log told found now last g owed (suc n) bare s present unspent p =
+      subst (λ (h : Gathered). SoFar file limits era t before log told found (with_bare now bare) last h owed) (more_gathered g n)
+      (plain_grows before log told found (with_bare now p.0) last (gathered_more g n) owed bare
+      (plain_grow before log told found now last g owed n p.0 s present unspent p.1) present unspent p.2)
 
 -- ---- instructions of a file that touch registers alone
 

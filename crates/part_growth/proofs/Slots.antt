@@ -30,11 +30,14 @@ use Rattle.deed_histories.specs.Deeds.{Made, all_events, all_checks, TellsNote, 
 use Rattle.deed_histories.specs.Lines.{IsHandDeed}
 use Rattle.table_deeds.specs.Objects.{ObjectDeed, hand_deed}
 use Rattle.hart_parts.specs.Parts.{IsStretch, all_touches, IsNeedy, SpendsIn}
+use Rattle.part_races.specs.Awaits.{AwaitsGathered}
+use Rattle.part_races.specs.Rounds.{Tagged, TellsAwaited}
 use Rattle.part_growth.specs.Growth.{Gathered, nothing_gathered, MakesLocal, AreLocal, Owing, nothing, needy, leave_of, Meets}
 use Rattle.part_growth.specs.Growth.{IsOwedWith, SoFar, place_in, IsTurn, HasAttached}
 use Rattle.part_growth.proofs.Gathering.{Silent, silent, some_held, labels_stay}
-use Rattle.part_growth.proofs.Deeds.{AreDeeds, IsNextDeed, deeds_push, entries_push, items_push}
-use Rattle.part_growth.proofs.Growing.{deeds_of, anew}
+use Rattle.part_growth.proofs.Awaiting.{quiet_all, none_await, noted_awaits}
+use Rattle.part_growth.proofs.Deeds.{AreDeeds, IsNextDeed, AreTold, deeds_push, told_push, items_push}
+use Rattle.part_growth.proofs.Growing.{deeds_of, told_of, anew}
 
 -- ---- a deed without instructions
 
@@ -49,6 +52,10 @@ none_spent limits d l none s = go s.before s.event (sym none ∙ s.last)
 -- and no instruction that needs one
 pub none_needy : (file : List ℕ) (limits : Limits) (d : ObjectDeed) → d.told.entry.steps ≡ 0 → IsNeedy file limits d → ⊥
 none_needy file limits d none n = let l = n.within in omega (arith, none, l)
+
+-- what is told of it: nothing awaits
+abbrev pub note_told : Entry → Tagged
+note_told e = record { entry = e; awaited = [] }
 
 module _ (file : List ℕ) (limits : Limits) (era t : ℕ) (before : Stamped Hand) where
   abbrev pub note_deed : Hand → Hand → ℕ → ℕ → Object → Object → Entry → Act → ObjectDeed
@@ -78,10 +85,17 @@ module _ (file : List ℕ) (limits : Limits) (era t : ℕ) (before : Stamped Han
     items_are = refl;
   }
 
+  note_tells : (found left : Hand) (last stamp : ℕ) (x y : Object) (e : Entry) (act : Act) (note : DeskNote) → TellsNote t note e →
+      TellsAwaited file limits era (hand_deed file limits (note_deed found left last stamp x y e act)) (note_told e)
+  note_tells found left last stamp x y e act note tn = record {
+    entry = refl;
+    awaits = noted_awaits file limits era t desk e (place_in file limits desk x) (place_in file limits desk y) note found left tn;
+  }
+
   -- ---- a slot is left
 
-  module _ (log new : Log) (entries : List Entry) (now : Hand) (last : ℕ) (l : Label) (x y : Object) (e : Entry) (stamp number : ℕ)
-      (s : SoFar file limits era t before log entries now now last nothing_gathered (leave_of l))
+  module _ (log new : Log) (told : List Tagged) (now : Hand) (last : ℕ) (l : Label) (x y : Object) (e : Entry) (stamp number : ℕ)
+      (s : SoFar file limits era t before log told now now last nothing_gathered (leave_of l))
       (leaves_slot : LeavesSlot era t l now (place_in file limits desk x) (place_in file limits desk y))
       (turn : IsTurn desk log new number [] x y last stamp) (tells : TellsNote t (Leave l) e) (stamp_is : e.stamp ≡ stamp) where
     abbrev leave_deed : ObjectDeed
@@ -116,19 +130,21 @@ module _ (file : List ℕ) (limits : Limits) (era t : ℕ) (before : Stamped Han
         let items = flat_map (λ (xs : Log). xs) s.stretches in
         turn.log ∙ (ap (λ (z : Log). z ++ note_stretch number x y) (s.log_is ∙ append-nil items) ∙ sym (items_push s.stretches (note_stretch number x y)))
 
-    leaves_so_far : SoFar file limits era t before new (entries ++ e ∷ []) now now stamp nothing_gathered nothing
-    leaves_so_far = anew file limits era t before new (entries ++ e ∷ []) (s.deeds ++ leave_deed ∷ []) (s.stretches ++ note_stretch number x y ∷ []) now
+    leaves_so_far : SoFar file limits era t before new (told ++ note_told e ∷ []) now now stamp nothing_gathered nothing
+    leaves_so_far = anew file limits era t before new (told ++ note_told e ∷ []) (s.deeds ++ leave_deed ∷ []) (s.stretches ++ note_stretch number x y ∷ []) now
         stamp nothing (deeds_push file limits era t before s.deeds s.stretches (with_stamp now last) s.owing leave_deed (note_stretch number x y) nothing
-        (deeds_of file limits era t before log entries now now last nothing_gathered (leave_of l) s) leave_next) leave_log
-        (entries_push file limits s.deeds leave_deed entries e s.entries_are refl)
+        (deeds_of file limits era t before log told now now last nothing_gathered (leave_of l) s) leave_next) leave_log
+        (told_push file limits era s.deeds leave_deed told (note_told e)
+        (told_of file limits era t before log told now now last nothing_gathered (leave_of l) s)
+        (note_tells now now last stamp x y e (leaves l) (Leave l) tells))
 
   -- a slot that was spent is left
-  pub leave_grows : (log new : Log) (entries : List Entry) (now : Hand) (last : ℕ) (l : Label) (x y : Object) (e : Entry) (stamp number : ℕ) →
-      SoFar file limits era t before log entries now now last nothing_gathered (leave_of l) →
+  pub leave_grows : (log new : Log) (told : List Tagged) (now : Hand) (last : ℕ) (l : Label) (x y : Object) (e : Entry) (stamp number : ℕ) →
+      SoFar file limits era t before log told now now last nothing_gathered (leave_of l) →
       LeavesSlot era t l now (place_in file limits desk x) (place_in file limits desk y) → IsTurn desk log new number [] x y last stamp →
-      TellsNote t (Leave l) e → e.stamp ≡ stamp → SoFar file limits era t before new (entries ++ e ∷ []) now now stamp nothing_gathered nothing
-  leave_grows log new entries now last l x y e stamp number s leaves_slot turn tells stamp_is =
-      leaves_so_far log new entries now last l x y e stamp number s leaves_slot turn tells stamp_is
+      TellsNote t (Leave l) e → e.stamp ≡ stamp → SoFar file limits era t before new (told ++ note_told e ∷ []) now now stamp nothing_gathered nothing
+  leave_grows log new told now last l x y e stamp number s leaves_slot turn tells stamp_is =
+      leaves_so_far log new told now last l x y e stamp number s leaves_slot turn tells stamp_is
 
 -- ---- what an instruction leaves of a thread that has arrived
 
@@ -248,8 +264,8 @@ module _ (file : List ℕ) (limits : Limits) (era t : ℕ) where
 
   -- ---- the part with the slot
 
-  module _ (before : Stamped Hand) (log new : Log) (entries : List Entry) (found now left : Hand) (last : ℕ) (g : Gathered) (label : Label) (x y : Object)
-      (e : Entry) (stamp number : ℕ) (s : SoFar file limits era t before log entries found now last g nothing)
+  module _ (before : Stamped Hand) (log new : Log) (told : List Tagged) (found now left : Hand) (last : ℕ) (g : Gathered) (label : Label) (x y : Object)
+      (e : Entry) (stamp number : ℕ) (s : SoFar file limits era t before log told found now last g nothing)
       (takes : TakesSlot limits era t label now left (place_in file limits desk x) (place_in file limits desk y))
       (turn : IsTurn desk log new number [] x y last stamp) (tells : TellsNote t (Attach label) e) (stamp_is : e.stamp ≡ stamp) where
     abbrev place : Held
@@ -309,7 +325,7 @@ module _ (file : List ℕ) (limits : Limits) (era t : ℕ) where
     all_deeds : AreDeeds file limits era t before (s.deeds ++ attach_deed ∷ []) (s.stretches ++ note_stretch file limits era t before number x y ∷ [])
         (with_stamp first stamp) needy
     all_deeds = deeds_push file limits era t before s.deeds s.stretches (with_stamp found last) s.owing attach_deed
-        (note_stretch file limits era t before number x y) needy (deeds_of file limits era t before log entries found now last g nothing s) attach_next
+        (note_stretch file limits era t before number x y) needy (deeds_of file limits era t before log told found now last g nothing s) attach_next
 
     no_checks : g.checks ≡ []
     no_checks = s.gathered.checks ∙ earlier.checks
@@ -323,10 +339,18 @@ module _ (file : List ℕ) (limits : Limits) (era t : ℕ) where
         ∙ (sym (items_push s.stretches turned) ∙ (sym (append-nil _)
         ∙ ap (λ (z : Log). flat_map (λ (xs : Log). xs) (s.stretches ++ turned ∷ []) ++ z) (sym none))))
 
+    none_awaits : g.awaits ≡ []
+    none_awaits = none_await file limits era t s.gathered.made found now g.awaits s.gathered.awaits earlier.events
+
+    all_told : AreTold file limits era (s.deeds ++ attach_deed ∷ []) (told ++ note_told e ∷ [])
+    all_told = told_push file limits era s.deeds attach_deed told (note_told e)
+        (told_of file limits era t before log told found now last g nothing s)
+        (note_tells file limits era t before found first last stamp x y e attaches (Attach label) tells)
+
     labelled_first : first.watched.label ≢ None
     labelled_first q = absurd (let r : Some label ≡ None = q in cc)
 
-    attached : SoFar file limits era t before new (entries ++ e ∷ []) first (with_slot t label now place) stamp g needy
+    attached : SoFar file limits era t before new (told ++ note_told e ∷ []) first (with_slot t label now place) stamp g needy
     attached = record {
       deeds = s.deeds ++ attach_deed ∷ [];
       stretches = s.stretches ++ note_stretch file limits era t before number x y ∷ [];
@@ -337,7 +361,8 @@ module _ (file : List ℕ) (limits : Limits) (era t : ℕ) where
       found_is = all_deeds.left_is;
       along = all_deeds.along;
       log_is = attach_log;
-      entries_are = entries_push file limits s.deeds attach_deed entries e s.entries_are refl;
+      entries_are = all_told.entries;
+      awaited = all_told.awaited;
       gathered = record {
         made = s.gathered.made;
         local = earlier.local;
@@ -345,6 +370,8 @@ module _ (file : List ℕ) (limits : Limits) (era t : ℕ) where
         events = s.gathered.events;
         checks = s.gathered.checks;
         numbered = s.gathered.numbered;
+        awaits = subst (AwaitsGathered file limits.harts era t s.gathered.made first (with_slot t label now place)) (sym none_awaits)
+            (quiet_all file limits era t s.gathered.made first (with_slot t label now place) earlier.local earlier.events);
       };
       owing = needy;
       paid = all_deeds.paid;
@@ -352,15 +379,15 @@ module _ (file : List ℕ) (limits : Limits) (era t : ℕ) where
       labelled = λ n. labelled_first;
     }
 
-    attached_left : SoFar file limits era t before new (entries ++ e ∷ []) first left stamp g needy
-    attached_left = subst (λ (h : Hand). SoFar file limits era t before new (entries ++ e ∷ []) first h stamp g needy) (sym takes.hand) attached
+    attached_left : SoFar file limits era t before new (told ++ note_told e ∷ []) first left stamp g needy
+    attached_left = subst (λ (h : Hand). SoFar file limits era t before new (told ++ note_told e ∷ []) first h stamp g needy) (sym takes.hand) attached
 
   -- A slot is taken: the deed is of what the thread had before the instructions that were gathered, and these lead from there on.
-  pub attach_grows : (before : Stamped Hand) (log new : Log) (entries : List Entry) (found now left : Hand) (last : ℕ) (g : Gathered) (label : Label)
-      (x y : Object) (e : Entry) (stamp number : ℕ) → SoFar file limits era t before log entries found now last g nothing →
+  pub attach_grows : (before : Stamped Hand) (log new : Log) (told : List Tagged) (found now left : Hand) (last : ℕ) (g : Gathered) (label : Label)
+      (x y : Object) (e : Entry) (stamp number : ℕ) → SoFar file limits era t before log told found now last g nothing →
       TakesSlot limits era t label now left (place_in file limits desk x) (place_in file limits desk y) → IsTurn desk log new number [] x y last stamp →
-      TellsNote t (Attach label) e → e.stamp ≡ stamp → HasAttached file limits era t before new (entries ++ e ∷ []) left stamp g
-  attach_grows before log new entries found now left last g label x y e stamp number s takes turn tells stamp_is = record {
+      TellsNote t (Attach label) e → e.stamp ≡ stamp → HasAttached file limits era t before new (told ++ note_told e ∷ []) left stamp g
+  attach_grows before log new told found now left last g label x y e stamp number s takes turn tells stamp_is = record {
     found = with_slot t label found (place_in file limits desk x);
-    so_far = attached_left before log new entries found now left last g label x y e stamp number s takes turn tells stamp_is;
+    so_far = attached_left before log new told found now left last g label x y e stamp number s takes turn tells stamp_is;
   }

@@ -1,4 +1,5 @@
--- How a part of a round grows: instructions are gathered, and become a deed with the turn of an object.
+-- How a part of a round grows: instructions are gathered, and become a deed with the turn of an object. With each entry stand those of
+-- its accesses that await the round's end.
 use Rattle.std.specs.Prelude.{◌≡◌, ◌≢◌, ◌<◌, ◌≤◌, ◌+◌, ◌⊎◌, ◌==◌, if◌then◌else◌, max, ℕ, zero, suc, true, false, List, [], ◌∷◌, ◌++◌, length, sum_by, Option, None, Some}
 use Rattle.std.specs.List.{AllZip, flat_map}
 use Rattle.run_record.specs.declared.limits.Limits.{Limits}
@@ -13,6 +14,7 @@ use Rattle.turn_orders.specs.Lists.{Each}
 use Rattle.turn_orders.specs.LineUp.{Stamped, with_stamp, LocalsFollow, last_local}
 use Rattle.machine_laws.specs.Events.{is_local}
 use Rattle.run_laws.specs.Labels.{raises}
+use Rattle.report_laws.specs.Awaited.{Awaited}
 use Rattle.race_core.specs.Watched.{Watched}
 use Rattle.thread_events.specs.Heard.{lost_label}
 use Rattle.place_turns.specs.Places.{Local, Value}
@@ -26,7 +28,9 @@ use Rattle.placed_detector.specs.Instructions.{MakesInstruction}
 use Rattle.deed_histories.specs.Deeds.{Made, all_events, all_checks, AreNumbered}
 use Rattle.deed_histories.specs.Lines.{entries_of, IsHandDeed}
 use Rattle.table_deeds.specs.Objects.{slots_in, ObjectDeed, hand_deed, hand_deeds, held_in, last_in}
-use Rattle.hart_parts.specs.Parts.{Try, Part, left_in, part_entries, HasEnded, WantsSlot, IsPart, IsStretch, all_touches, after_steps, IsNeedy, SpendsIn}
+use Rattle.hart_parts.specs.Parts.{Try, HasEnded, WantsSlot, IsStretch, all_touches, after_steps, IsNeedy, SpendsIn}
+use Rattle.part_races.specs.Awaits.{AwaitsGathered}
+use Rattle.part_races.specs.Rounds.{Tagged, entries_tagged, TellsAwaited}
 
 -- ---- instructions that were gathered
 
@@ -34,14 +38,15 @@ use Rattle.hart_parts.specs.Parts.{Try, Part, left_in, part_entries, HasEnded, W
 abbrev pub checks_in : List (List Check) → List Check
 checks_in css = flat_map (λ (cs : List Check). cs) css
 
--- how many instructions a thread has made since its last deed, their events, and the checks of these
+-- how many instructions a thread has made since its last deed, their events, the checks of these, and the accesses that await
 pub record Gathered : Type 0 where
   pub steps : ℕ
   pub events : List Event
   pub checks : List Check
+  pub awaits : List Awaited
 
 abbrev pub nothing_gathered : Gathered
-nothing_gathered = record { steps = 0; events = []; checks = [] }
+nothing_gathered = record { steps = 0; events = []; checks = []; awaits = [] }
 
 -- An instruction of thread t that uses no object, whatever place it is at and whatever this has.
 pub record MakesLocal (file : List ℕ) (harts era t : ℕ) (x : Made) (found left : Hand) : Type 0 where
@@ -64,10 +69,12 @@ pub record IsGathered (file : List ℕ) (harts era t : ℕ) (found now : Hand) (
   pub events : g.events ≡ all_events made
   pub checks : g.checks ≡ checks_in (all_checks made)
   pub numbered : AreNumbered 0 (all_checks made)
+  pub awaits : AwaitsGathered file harts era t made found now g.awaits
 
--- one more instruction, with these events and the checks of each
-abbrev pub gathered_with : Gathered → List Event → List (List Check) → Gathered
-gathered_with g es css = record { steps = g.steps + 1; events = g.events ++ es; checks = g.checks ++ checks_in css }
+-- one more instruction, with these events and the checks of each, and these accesses that await
+abbrev pub gathered_with : Gathered → List Event → List (List Check) → List Awaited → Gathered
+gathered_with g es css later =
+    record { steps = g.steps + 1; events = g.events ++ es; checks = g.checks ++ checks_in css; awaits = g.awaits ++ later }
 
 -- An instruction without an object, without events and without need of a slot, from one own state of the thread to another.
 pub record IsPlain (file : List ℕ) (harts t : ℕ) (found left : Local) : Type 0 where
@@ -87,7 +94,7 @@ with_bare l bare = record { bare = bare; watched = l.watched; given = l.given }
 
 -- so many more, without events
 abbrev pub gathered_more : Gathered → ℕ → Gathered
-gathered_more g n = record { steps = g.steps + n; events = g.events; checks = g.checks }
+gathered_more g n = record { steps = g.steps + n; events = g.events; checks = g.checks; awaits = g.awaits }
 
 -- ---- what is owed
 
@@ -163,10 +170,10 @@ owing_of (Some l) = leave_of l
 
 -- ---- a part so far
 
--- What stands of a part of thread t in that era, which began with `before` and has left this log of its seat and these entries: its
--- deeds lead to `found`, with that last stamp, and what was gathered since leads to `now`. `owed` is what the deeds and the gathered
--- instructions still owe.
-pub record SoFar (file : List ℕ) (limits : Limits) (era t : ℕ) (before : Stamped Hand) (log : Log) (entries : List Entry)
+-- What stands of a part of thread t in that era, which began with `before`, has left this log of its seat and has told these entries,
+-- each with the accesses of it that await: its deeds lead to `found`, with that last stamp, and what was gathered since leads to
+-- `now`. `owed` is what the deeds and the gathered instructions still owe.
+pub record SoFar (file : List ℕ) (limits : Limits) (era t : ℕ) (before : Stamped Hand) (log : Log) (told : List Tagged)
     (found now : Hand) (last : ℕ) (g : Gathered) (owed : Owing) : Type 0 where
   pub deeds : List ObjectDeed
   pub stretches : List Log
@@ -177,7 +184,8 @@ pub record SoFar (file : List ℕ) (limits : Limits) (era t : ℕ) (before : Sta
   pub found_is : last_local before deeds ≡ with_stamp found last
   pub along : AllZip IsStretch deeds stretches
   pub log_is : log ≡ flat_map (λ (items : Log). items) stretches ++ all_touches g.checks
-  pub entries_are : entries ≡ entries_of (hand_deeds file limits deeds)
+  pub entries_are : entries_tagged told ≡ entries_of (hand_deeds file limits deeds)
+  pub awaited : AllZip (TellsAwaited file limits era) (hand_deeds file limits deeds) told
   pub gathered : IsGathered file limits.harts era t found now g
   -- what the deeds owe, before what was gathered
   pub owing : Owing
@@ -217,16 +225,16 @@ pub record IsEntryOf (t : ℕ) (g : Gathered) (stamp : ℕ) (e : Entry) : Type 0
 
 -- A part whose thread took a slot: its deeds lead to what the thread had with the slot before the instructions that were gathered,
 -- and one of the instructions to come needs it.
-pub record HasAttached (file : List ℕ) (limits : Limits) (era t : ℕ) (before : Stamped Hand) (log : Log) (entries : List Entry)
+pub record HasAttached (file : List ℕ) (limits : Limits) (era t : ℕ) (before : Stamped Hand) (log : Log) (told : List Tagged)
     (now : Hand) (last : ℕ) (g : Gathered) : Type 0 where
   pub found : Hand
-  pub so_far : SoFar file limits era t before log entries found now last g needy
+  pub so_far : SoFar file limits era t before log told found now last g needy
 
 -- ---- the end of a part
 
 -- how many instructions a part has made so far
-abbrev pub made_so_far : List Entry → Gathered → ℕ
-made_so_far entries g = sum_by (λ (e : Entry). e.steps) entries + g.steps
+abbrev pub made_so_far : List Tagged → Gathered → ℕ
+made_so_far told g = sum_by (λ (e : Entry). e.steps) (entries_tagged told) + g.steps
 
 -- The thread is starved: it has no label where its next instruction wants one, and its last turn of the desk found no free slot.
 pub record Starves (file : List ℕ) (limits : Limits) (t : ℕ) (now : Hand) (tried : Option Try) : Type 0 where
@@ -247,22 +255,11 @@ abbrev pub IsLastOf : ℕ → Gathered → ℕ → Option Entry → Type 0
 IsLastOf t g last None = g.steps ≡ 0
 IsLastOf t g last (Some e) = (g.steps ≢ 0) × IsEntryOf t g (last + 1) e
 
-abbrev pub with_last : List Entry → Option Entry → List Entry
-with_last entries None = entries
-with_last entries (Some e) = entries ++ e ∷ []
+-- with that entry behind what was told, and those of its accesses that await
+abbrev pub with_last : List Tagged → List Awaited → Option Entry → List Tagged
+with_last told awaits None = told
+with_last told awaits (Some e) = told ++ record { entry = e; awaited = awaits } ∷ []
 
 abbrev pub stamp_with : ℕ → Option Entry → ℕ
 stamp_with last None = last
 stamp_with last (Some e) = last + 1
-
--- There is a part of that thread, which began so, was given so many, and left this log, these entries and that.
-pub record IsFinished (file : List ℕ) (limits : Limits) (era t given : ℕ) (before : Stamped Hand) (log : Log) (entries : List Entry)
-    (left : Stamped Hand) : Type 0 where
-  pub part : Part
-  pub is_part : IsPart file limits era part
-  pub thread : part.thread ≡ t
-  pub before_is : part.before ≡ before
-  pub given_is : part.given ≡ given
-  pub log_is : part.log ≡ log
-  pub left_is : left_in part ≡ left
-  pub entries_are : part_entries file limits part ≡ entries

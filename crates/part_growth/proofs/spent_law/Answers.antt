@@ -1,4 +1,5 @@
 use Rattle.part_growth.proofs.Order.{quiet_before}
+use Rattle.part_growth.proofs.Owed.{whole_owed}
 use Rattle.part_growth.proofs.Spending.{label_stays, none_owed, spent_owed}
 use Rattle.part_growth.proofs.spent_law.Goals as goal
 
@@ -13,3 +14,6 @@ returns-clause-unspent c = none_owed
 
 pub returns-clause-owed : goal.returns-clause-owed
 returns-clause-owed c = spent_owed
+
+pub returns-clause-whole : goal.returns-clause-whole
+returns-clause-whole c = whole_owed
