@@ -1,0 +1,10 @@
+pub mod AtDesk
+pub mod AtObjects
+pub mod Given
+pub mod Going
+pub mod Keeping
+pub mod Making
+pub mod NextTurn
+pub mod Resting
+pub mod Taking
+pub mod Turning

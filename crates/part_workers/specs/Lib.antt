@@ -1,0 +1,9 @@
+pub mod Begin
+pub mod Needs
+pub mod Makes
+pub mod Objects
+pub mod Parts
+pub mod Places
+pub mod Rest
+pub mod Standing
+pub mod Turns

@@ -1,0 +1,31 @@
+//! One worker's part of a round: what its thread makes, one turn after another, and what it tells of that.
+//!
+//! A worker keeps its thread's state, and what it has told so far (`PartSoFar`). Instructions without an object are gathered. One at an
+//! object is made in a turn of that: the worker takes it, makes the instruction with its checks, draws a stamp, tells the entry of what
+//! was gathered and of this one, and gives the object back. A slot is taken, or left, in a turn of the desk.
+//!
+//! `hart_turns` stands below this crate with what a turn makes of the thread and of one object, `shared_table` with the objects, and
+//! `part_growth` with the laws, whose premises are the clauses of these functions: `IsTurn`, `TakesSlot`, `LeavesSlot`,
+//! `AwaitsInstruction`, `IsEntryWith`, `TellsNote`.
+#![tactic(auto)]
+
+mod alone;
+mod begin;
+mod desk;
+mod laws;
+mod next;
+mod object;
+mod part;
+mod rest;
+mod slots;
+mod turn;
+
+pub use alone::{make_gathered, make_plain};
+pub use desk::{leave_at_desk, take_at_desk};
+pub use laws::{ends_law, first_law, making_law, slots_law};
+pub use next::go_on;
+pub use object::{make_in_desk, make_in_stripe};
+pub use part::{PartSoFar, Post, Waiting};
+pub use rest::tell_rest;
+pub use slots::with_slot;
+pub use turn::{ask, make};

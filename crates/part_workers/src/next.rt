@@ -1,0 +1,91 @@
+// The next instruction of a thread that has arrived, with the slot that it needs.
+ghost use Rattle.std.specs.Prelude.{◌≡◌, true, Some, IfOk};
+ghost use Rattle.bare_machine.specs.Asked.{IsUndone};
+ghost use Rattle.shared_table.specs.Layouts.{IsTableOf};
+ghost use Rattle.shared_table.specs.Seats.{IsSeatOf, IsFree};
+ghost use Rattle.part_workers.specs.Needs.{GoesOn};
+
+use crate::part::{PartSoFar, Post};
+use crate::slots::with_slot;
+use crate::turn::{ask, make};
+use bare_machine::Request;
+use elf_image::Image;
+use guest_code::Code;
+use hart_turns::ThreadState;
+use run_record::{Limits, NoMemory};
+use shared_table::{Shared, SharedSeat};
+use std::alloc::Global;
+use std::sync::Wait;
+use tool_ports::Gate;
+use vector_clock::Clock;
+
+// Whether the instruction is not done yet, if it needs a slot.
+fn is_undone(request: &Request, needs: bool) -> bool
+    ensures { result ≡ true → needs ≡ true → IsUndone request.now }
+{
+    match request {
+        Request::Done => !needs,
+        _ => true,
+    }
+}
+
+/// The thread, which has arrived, makes its next instruction, and takes a slot before it, where it needs one and has none. It tells whether it
+/// made it: not where no slot is free.
+pub fn go_on<R: Wait, G: Gate>(
+    rt: &R,
+    alloc: Global,
+    shared: &Shared,
+    seat: &mut SharedSeat,
+    gate: &G,
+    image: &Image<'_>,
+    code: &Code<'_>,
+    limits: &Limits,
+    post: &Post,
+    state: &mut ThreadState,
+    given: &mut Clock,
+    part: &mut PartSoFar,
+) -> Result<bool, NoMemory>
+    requires own { IsSeatOf shared.now seat.old }
+    requires free { IsFree seat.old.me }
+    requires table { IsTableOf image.now limits.now shared.now }
+    requires code { code.now ≡ image.now }
+    requires greatest { limits.now.epochs ≡ state.old.watcher.greatest }
+    ensures own { IsSeatOf shared.now seat.new }
+    ensures free { IsFree seat.new.me }
+    ensures number { seat.new.me.0.number ≡ seat.old.me.0.number }
+    ensures goes { IfOk result (λ r. r ≡ true → GoesOn image.now limits.now post.now state.old state.new part.old part.new
+        seat.old.me.0.log seat.new.me.0.log) }
+{
+    let Some(hart) = &mut state.hart else {
+        return Err(NoMemory);
+    };
+    let (request, needs) = ask(hart, code, post.tid);
+    if !is_undone(&request, needs) {
+        return Err(NoMemory);
+    }
+    if !with_slot(
+        rt, shared, seat, gate, limits, post, state, given, part, needs,
+    )? {
+        return Ok(false);
+    }
+    let _label = state.watcher.label();
+    let Some(hart) = &mut state.hart else {
+        return Err(NoMemory);
+    };
+    make(
+        rt,
+        alloc,
+        shared,
+        seat,
+        gate,
+        image,
+        limits,
+        post,
+        hart,
+        &mut state.watcher,
+        given,
+        &request,
+        part,
+    )?;
+    Ok(true)
+}
