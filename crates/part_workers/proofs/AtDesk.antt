@@ -1,13 +1,12 @@
 -- From a take of an object to its give.
 use Rattle.std.specs.Global.{Box}
 use Rattle.std.specs.Box.{with_value}
-use Rattle.std.proofs.Common.{◌≡◌, ◌+◌, ◌<◌, ℕ, max, List, [], ◌∷◌, ◌++◌, Option, Some, None, refl, ap, sym, subst, ◌∙◌, append_assoc, append-nil, arith}
+use Rattle.std.proofs.Common.{◌≡◌, ◌+◌, ◌<◌, ℕ, List, [], ◌∷◌, ◌++◌, Some, refl, ap, sym, subst, ◌∙◌, append_assoc, append-nil, arith}
 use Rattle.std.specs.Prelude.{IfOk, OnOk, Result, Ok, Err}
 use Rattle.run_record.specs.declared.entry.Label.{Label}
 use Rattle.run_record.specs.declared.entry.DeskNote.TheVariants.{Attach, Leave}
 use Rattle.run_record.specs.declared.limits.Limits.{Limits}
 use Rattle.bare_machine.specs.Step.{desk}
-use Rattle.slot_desk.specs.Desks.{DeskContents}
 use Rattle.race_core.specs.Watched.{Watched}
 use Rattle.shared_table.specs.declared.object.DeskState.{DeskState}
 use Rattle.shared_table.specs.declared.object.Object.{Object}
@@ -16,9 +15,8 @@ use Rattle.shared_table.specs.declared.view.Item.TheVariants.{Take, Give}
 use Rattle.shared_table.specs.declared.view.Layout.{Layout}
 use Rattle.shared_table.specs.Past.{Log, IsSound, IsDeskOf}
 use Rattle.shared_table.specs.Steps.{Mine, holding}
-use Rattle.shared_table.specs.Seats.{IsFree, Holds, Took, Gave}
+use Rattle.shared_table.specs.Seats.{IsFree, Took, Gave}
 use Rattle.table_deeds.specs.Objects.{slots_in}
-use Rattle.part_growth.specs.Growth.{IsTurn}
 use Rattle.hart_turns.specs.declared.slots.ThreadState.{ThreadState}
 use Rattle.hart_turns.specs.Slots.{LeftAt}
 use Rattle.hart_turns.specs.Checks.{with_items}

@@ -1,5 +1,5 @@
 -- A turn of an object in which an instruction is made, as it is told.
-use Rattle.std.proofs.Common.{◌≡◌, ◌+◌, ℕ, Bool, max, List, [], ◌∷◌, ◌++◌, length, inl, inr, Option, Some, None, refl, ap, sym, subst, ◌∙◌}
+use Rattle.std.proofs.Common.{◌≡◌, ◌+◌, ℕ, List, [], ◌∷◌, ◌++◌, length, inl, inr, Option, Some, None, refl, ap, sym, subst, ◌∙◌}
 use Rattle.std.specs.Prelude.{map, IfOk, Result, Ok}
 use Rattle.std.proofs.lemmas.List.{map-append}
 use Rattle.run_record.specs.declared.entry.Label.{Label}
@@ -15,7 +15,7 @@ use Rattle.detector.specs.Stands.{awaited}
 use Rattle.shared_table.specs.declared.object.Object.{Object}
 use Rattle.shared_table.specs.declared.object.Object.TheVariants.{Stripe, Desk}
 use Rattle.shared_table.specs.declared.view.Layout.{Layout}
-use Rattle.shared_table.specs.Past.{Log, IsSound, IsSoundSlot}
+use Rattle.shared_table.specs.Past.{Log, IsSoundSlot}
 use Rattle.shared_table.specs.Steps.{Mine}
 use Rattle.shared_table.specs.Seats.{IsFree, Holds, Took, Gave}
 use Rattle.placed_detector.specs.Standing.{Held}

@@ -1,5 +1,5 @@
 -- What a thread that begins was given.
-use Rattle.std.proofs.Common.{◌≡◌, ℕ, Bool, true, false, List, [], ◌∷◌, Option, Some, None, refl, ap, sym, subst, ◌∙◌}
+use Rattle.std.proofs.Common.{◌≡◌, ℕ, Bool, true, false, List, [], ◌∷◌, Option, None, refl, ap, sym, subst, ◌∙◌}
 use Rattle.std.specs.Prelude.{All}
 use Rattle.std.proofs.lemmas.List.Elements.{All-head, All-tail}
 use Rattle.run_record.specs.declared.event.Event.{Event}
@@ -8,7 +8,7 @@ use Rattle.run_record.specs.declared.limits.Limits.{Limits}
 use Rattle.placed_detector.specs.Instructions.{given_after}
 use Rattle.hart_turns.specs.Places.{IsGivenAs}
 use Rattle.hart_turns.specs.Instructions.{given_after_all, AreGivenAs}
-use Rattle.part_workers.specs.Begin.{is_begin, IsLater, BeginsFirst}
+use Rattle.part_workers.specs.Begin.{IsLater, BeginsFirst}
 use Rattle.part_workers.specs.Turns.{IsGivenIn}
 use Rattle.part_workers.specs.Standing.{IsGivenTo}
 

@@ -1,5 +1,5 @@
 -- What stays as it is while a thread makes instructions: its watcher's greatest epoch; and that it has begun.
-use Rattle.std.proofs.Common.{◌≡◌, ℕ, ◌+◌, Bool, true, false, List, [], ◌∷◌, ◌++◌, Option, Some, None, refl, ap, sym, ◌∙◌}
+use Rattle.std.proofs.Common.{◌≡◌, ℕ, ◌+◌, Bool, true, false, List, [], ◌∷◌, Option, Some, None, refl, ap, sym, ◌∙◌}
 use Rattle.run_record.specs.declared.entry.Check.{Check}
 use Rattle.run_record.specs.declared.entry.Label.{Label}
 use Rattle.run_record.specs.declared.event.Event.{Event}
@@ -7,13 +7,13 @@ use Rattle.run_record.specs.declared.event.Event.TheVariants as events
 use Rattle.bare_machine.specs.declared.thread.Thread.{Thread}
 use Rattle.bare_machine.specs.Requests.{Request, done, returned, touch, operate, put, create, join, stop, request}
 use Rattle.place_turns.specs.Places.{Local, Value, desk_in}
-use Rattle.place_turns.specs.Turns.{Turned, served, steps, bare_turn, create_turn, is_full}
+use Rattle.place_turns.specs.Turns.{Turned, served, create_turn, is_full}
 use Rattle.slot_desk.specs.Desks.{DeskContents}
 use Rattle.sync_slab.specs.Objects.{SyncObjects}
 use Rattle.race_core.specs.Watched.{Watched, next_label, raised_to}
 use Rattle.thread_events.specs.Heard.{watcher_after, raised_or_lost_to}
 use Rattle.watched_turns.specs.Checking.{Loads}
-use Rattle.placed_detector.specs.Standing.{Hand, Held}
+use Rattle.placed_detector.specs.Standing.{Held}
 use Rattle.placed_detector.specs.Instructions.{Beside, told_in, HearsEvents, MakesInstruction}
 use Rattle.hart_steps.specs.declared.hart.Hart.{Hart}
 use Rattle.hart_turns.specs.Makes.{hand_at}

@@ -12,7 +12,7 @@ use Rattle.turn_orders.specs.LineUp.{Stamped}
 use Rattle.placed_detector.specs.Standing.{Hand}
 use Rattle.turn_orders.proofs.Members.{each_append}
 use Rattle.turn_histories.specs.Rounds.{IsIn}
-use Rattle.part_races.specs.Rounds.{Tagged, entries_tagged}
+use Rattle.part_races.specs.Rounds.{Tagged}
 use Rattle.part_races.specs.Sorting.{Keyed, keyed_of, all_keyed}
 use Rattle.part_growth.specs.Growth.{Gathered, SoFar, nothing, nothing_gathered}
 use Rattle.part_growth.proofs.Growing.{begins_so_far}

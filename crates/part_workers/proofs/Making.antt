@@ -1,26 +1,22 @@
 -- A worker's part with an instruction that was made.
-use Rattle.std.proofs.Common.{◌≡◌, ◌≤◌, ◌⊎◌, inl, inr, ℕ, Bool, true, List, [], ◌∷◌, ◌++◌, Option, Some, None, append_assoc, refl, ap, sym, subst, ◌∙◌}
+use Rattle.std.proofs.Common.{◌≡◌, ◌≤◌, ◌⊎◌, inl, inr, ℕ, Bool, List, [], ◌∷◌, ◌++◌, Option, Some, None, append_assoc, refl, ap, sym, subst, ◌∙◌}
 use Rattle.std.specs.Prelude.{map}
 use Rattle.std.proofs.lemmas.List.{map-append}
 use Rattle.run_record.specs.declared.entry.Label.{Label}
-use Rattle.run_record.specs.declared.entry.Check.{Check}
 use Rattle.run_record.specs.declared.event.Event.{Event}
 use Rattle.run_record.specs.declared.limits.Limits.{Limits}
-use Rattle.run_laws.specs.Labels.{raises, is_end}
 use Rattle.bare_machine.specs.declared.request.Request.{Request}
 use Rattle.bare_machine.specs.Step.{desk}
-use Rattle.bare_machine.specs.Preview.{thread_needs}
 use Rattle.turn_orders.specs.Lists.{Each}
 use Rattle.turn_orders.specs.LineUp.{Stamped}
 use Rattle.place_turns.specs.Places.{Local, Value, of_nobody}
 use Rattle.place_turns.specs.Turns.{Turned, steps, bare_turn}
-use Rattle.report_laws.specs.Awaited.{Awaited}
 use Rattle.race_core.specs.Watched.{Watched}
 use Rattle.slot_desk.specs.Steps.{new_desk}
 use Rattle.detector.specs.Stands.{awaited}
 use Rattle.shared_table.specs.Past.{Log}
 use Rattle.shared_table.specs.Steps.{Mine}
-use Rattle.turn_histories.specs.Entries.{IsAlive, IsPlaceOf, next_object}
+use Rattle.turn_histories.specs.Entries.{IsPlaceOf}
 use Rattle.turn_histories.specs.Rounds.{IsIn}
 use Rattle.placed_detector.specs.Standing.{Hand, Held}
 use Rattle.hart_steps.specs.declared.hart.Hart.{Hart}
@@ -28,19 +24,19 @@ use Rattle.hart_steps.specs.Asked.{Asks}
 use Rattle.part_races.specs.Awaits.{AwaitsInstruction}
 use Rattle.part_races.specs.Rounds.{Tagged}
 use Rattle.hart_parts.specs.Parts.{all_touches}
-use Rattle.part_growth.specs.Growth.{checks_in, Gathered, MakesLocal, gathered_with, SoFar, Owing, nothing, needy, leave_of, nothing_gathered, IsPaidBy, IsOwedBy, owing_of, spent_by, place_in}
+use Rattle.part_growth.specs.Growth.{checks_in, Gathered, MakesLocal, gathered_with, SoFar, Owing, nothing, needy, leave_of, IsPaidBy, IsOwedBy, owing_of, spent_by, place_in}
 use Rattle.part_growth.proofs.Growing.{local_grows, object_grows}
 use Rattle.part_growth.proofs.Alone.{told_local}
 use Rattle.part_growth.proofs.Order.{quiet_before}
 use Rattle.part_growth.proofs.Spending.{none_owed, spent_owed}
 use Rattle.hart_turns.specs.Hearing.{at_rest}
-use Rattle.hart_turns.specs.Instructions.{given_after_all, AreGivenAs, KeepsLabel, SpendsLast}
+use Rattle.hart_turns.specs.Instructions.{KeepsLabel, SpendsLast}
 use Rattle.hart_turns.specs.Makes.{hand_at, made_of}
 use Rattle.part_workers.specs.declared.part.Post.{Post}
 use Rattle.part_workers.specs.declared.part.PartSoFar.{PartSoFar}
 use Rattle.part_workers.specs.Begin.{BeginsFirst}
 use Rattle.part_workers.specs.Parts.{gathered_in, keyed_in}
-use Rattle.part_workers.specs.Makes.{GathersAlone, TellsWith, MakesAtObject}
+use Rattle.part_workers.specs.Makes.{GathersAlone, MakesAtObject}
 use Rattle.part_workers.specs.Standing.{Stands, IsPaidFor, MayMake}
 use Rattle.part_workers.proofs.Given.{are_given, none_given}
 use Rattle.part_workers.proofs.Keeping.{keep_more}

@@ -1,5 +1,5 @@
 -- A thread that goes on, with the slot that it needs.
-use Rattle.std.proofs.Common.{◌≡◌, ◌≢◌, ◌≤◌, ℕ, ◌+◌, Bool, true, false, List, [], ◌∷◌, Option, Some, None, refl, ap, sym, subst, ◌∙◌, arith}
+use Rattle.std.proofs.Common.{◌≡◌, ◌≢◌, ◌≤◌, ℕ, Bool, true, false, List, [], Option, Some, None, refl, ap, sym, subst, ◌∙◌, arith}
 use Rattle.run_record.specs.declared.entry.Label.{Label}
 use Rattle.run_record.specs.declared.entry.DeskNote.TheVariants.{Attach}
 use Rattle.run_record.specs.declared.limits.Limits.{Limits}
@@ -19,7 +19,6 @@ use Rattle.hart_steps.specs.declared.hart.Hart.{Hart}
 use Rattle.hart_steps.specs.Asked.{Asks}
 use Rattle.part_growth.specs.Growth.{nothing, needy, place_in}
 use Rattle.hart_turns.specs.declared.slots.ThreadState.{ThreadState}
-use Rattle.hart_turns.specs.Hearing.{at_rest}
 use Rattle.hart_turns.specs.Slots.{hand_of, local_in}
 use Rattle.hart_turns.specs.Makes.{hand_at}
 use Rattle.part_workers.specs.declared.part.Post.{Post}
@@ -27,7 +26,7 @@ use Rattle.part_workers.specs.declared.part.PartSoFar.{PartSoFar}
 use Rattle.part_workers.specs.Parts.{note_entry}
 use Rattle.part_workers.specs.Turns.{TakesAtDesk, IsGivenIn}
 use Rattle.part_workers.specs.Needs.{HasSlot, Had, Took, GoesOn}
-use Rattle.part_workers.specs.Standing.{Stands, IsOfPart, IsGivenTo, MayMake, MadeTurn, MakesTurn, steps_in}
+use Rattle.part_workers.specs.Standing.{Stands, IsGivenTo, MayMake, MadeTurn, MakesTurn}
 use Rattle.part_workers.proofs.Keeping.{steps_more}
 use Rattle.part_workers.proofs.Taking.{taken}
 

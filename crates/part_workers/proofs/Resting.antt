@@ -1,5 +1,5 @@
 -- The end of a worker's part, as the laws of parts have it.
-use Rattle.std.proofs.Common.{◌≡◌, ◌≢◌, ◌+◌, ℕ, max, List, [], ◌∷◌, ◌++◌, Option, Some, None, refl, ap, sym, subst, ◌∙◌, append-nil, arith}
+use Rattle.std.proofs.Common.{◌≡◌, ◌+◌, ℕ, max, List, ◌++◌, Option, Some, None, refl, ap, sym, subst, ◌∙◌, append-nil, arith}
 use Rattle.std.specs.Prelude.{map, sum_by, is_some}
 use Rattle.std.proofs.lemmas.List.{map-append}
 use Rattle.turn_orders.specs.Lists.{Each}
@@ -13,7 +13,7 @@ use Rattle.hart_parts.specs.Parts.{Try, try_items}
 use Rattle.part_races.specs.Rounds.{Tagged}
 use Rattle.part_races.specs.Sorting.{Keyed}
 use Rattle.part_races.specs.Telling.{TellsPart}
-use Rattle.part_growth.specs.Growth.{nothing, made_so_far, Stops, with_last, stamp_with}
+use Rattle.part_growth.specs.Growth.{nothing, made_so_far, Stops, with_last}
 use Rattle.part_growth.proofs.Finishing.{finish}
 use Rattle.part_workers.specs.declared.part.Post.{Post}
 use Rattle.part_workers.specs.declared.part.PartSoFar.{PartSoFar}

@@ -1,5 +1,5 @@
 -- A whole instruction of a worker's thread.
-use Rattle.std.proofs.Common.{◌≡◌, ◌≤◌, ℕ, ◌+◌, Bool, true, List, [], ◌∷◌, ◌++◌, Option, Some, None, refl, ap, sym, subst, ◌∙◌, arith}
+use Rattle.std.proofs.Common.{◌≡◌, ℕ, ◌+◌, Bool, true, List, [], Option, Some, None, refl, ap, subst, ◌∙◌, arith}
 use Rattle.std.specs.Prelude.{sum_by}
 use Rattle.run_record.specs.declared.entry.Entry.{Entry}
 use Rattle.run_record.specs.declared.entry.Label.{Label}
@@ -14,10 +14,10 @@ use Rattle.slot_desk.specs.Steps.{new_desk}
 use Rattle.race_core.specs.Watched.{Watched}
 use Rattle.shared_table.specs.Past.{Log}
 use Rattle.shared_table.specs.Steps.{Mine}
-use Rattle.placed_detector.specs.Standing.{Hand, Held}
+use Rattle.placed_detector.specs.Standing.{Hand}
 use Rattle.hart_steps.specs.declared.hart.Hart.{Hart}
 use Rattle.hart_steps.specs.Asked.{Asks}
-use Rattle.part_growth.specs.Growth.{Gathered, Owing, nothing, owing_of, leave_of, nothing_gathered}
+use Rattle.part_growth.specs.Growth.{Gathered, Owing, owing_of, nothing_gathered}
 use Rattle.hart_turns.specs.declared.slots.ThreadState.{ThreadState}
 use Rattle.hart_turns.specs.Instructions.{AreGivenAs}
 use Rattle.hart_turns.specs.Makes.{hand_at}
@@ -26,8 +26,8 @@ use Rattle.part_workers.specs.declared.part.PartSoFar.{PartSoFar}
 use Rattle.part_workers.specs.Begin.{BeginsFirst}
 use Rattle.part_workers.specs.Parts.{gathered_in, note_entry}
 use Rattle.part_workers.specs.Turns.{LeavesAtDesk}
-use Rattle.part_workers.specs.Makes.{GathersAlone, MakesAtObject, Serves, Alone, AtObject}
-use Rattle.part_workers.specs.Standing.{Stands, IsPaidFor, MayMake, MadeTurn, MakesTurn, steps_in}
+use Rattle.part_workers.specs.Makes.{Serves, Alone, AtObject}
+use Rattle.part_workers.specs.Standing.{Stands, IsPaidFor, MayMake, MakesTurn, steps_in}
 use Rattle.part_workers.proofs.Given.{are_given}
 use Rattle.part_workers.proofs.Going.{greatest_stays, began_then}
 use Rattle.part_workers.proofs.Keeping.{steps_more}

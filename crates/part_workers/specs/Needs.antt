@@ -1,5 +1,5 @@
 -- A slot for the next instruction, where that needs one.
-use Rattle.std.specs.Prelude.{◌≡◌, ◌≢◌, ℕ, Bool, true, List, Option, None, Some}
+use Rattle.std.specs.Prelude.{◌≡◌, ◌≢◌, ℕ, Bool, true, List, None, Some}
 use Rattle.run_record.specs.declared.limits.Limits.{Limits}
 use Rattle.turn_orders.specs.LineUp.{Stamped}
 use Rattle.shared_table.specs.Past.{Log}

@@ -1,5 +1,4 @@
 -- Where an instruction is made.
-use Rattle.std.specs.Prelude.{ℕ}
 use Rattle.bare_machine.specs.declared.request.Request.{Request}
 use Rattle.hart_steps.specs.Asked.{UsesDesk}
 use Rattle.hart_turns.specs.Serves.{UsesStripe}

@@ -1,27 +1,22 @@
 -- What a turn of a worker makes of its thread, of one object and of what it told, as the laws of parts have it.
-use Rattle.std.specs.Prelude.{◌≡◌, ◌+◌, ◌<◌, ◌≤◌, ◌∷◌, ◌++◌, max, ℕ, List, [], map, length, replicate, Option, Some, None}
-use Rattle.run_record.specs.declared.entry.Check.{Check}
+use Rattle.std.specs.Prelude.{◌≡◌, ◌+◌, ◌∷◌, ◌++◌, max, ℕ, List, [], replicate, Option, Some, None}
 use Rattle.run_record.specs.declared.entry.Label.{Label}
 use Rattle.run_record.specs.declared.entry.DeskNote.{DeskNote}
 use Rattle.run_record.specs.declared.entry.DeskNote.TheVariants.{Attach, Leave}
-use Rattle.run_record.specs.declared.event.Event.{Event}
 use Rattle.run_record.specs.declared.limits.Limits.{Limits}
 use Rattle.bare_machine.specs.Step.{desk}
 use Rattle.slot_desk.specs.Steps.{joined_told}
 use Rattle.race_core.specs.Watched.{Watched}
-use Rattle.race_core.specs.declared.watcher.Candidate.{Candidate}
-use Rattle.detector.specs.Stands.{awaited}
 use Rattle.shared_table.specs.declared.object.DeskState.{DeskState}
 use Rattle.shared_table.specs.declared.object.Object.{Object}
 use Rattle.shared_table.specs.declared.object.Object.TheVariants.{Stripe, Desk}
 use Rattle.shared_table.specs.Past.{Log, IsDeskOf, HasThreads}
 use Rattle.placed_detector.specs.Slots.{TakesSlot, LeavesSlot}
-use Rattle.table_deeds.specs.Objects.{slots_in, last_in}
+use Rattle.table_deeds.specs.Objects.{slots_in}
 use Rattle.hart_steps.specs.declared.hart.Hart.{Hart}
 use Rattle.hart_parts.specs.Parts.{Try, try_items}
 use Rattle.part_growth.specs.Growth.{place_in, IsTurn}
 use Rattle.hart_turns.specs.declared.slots.ThreadState.{ThreadState}
-use Rattle.hart_turns.specs.Hearing.{at_rest}
 use Rattle.hart_turns.specs.Slots.{hand_of, held_desk}
 use Rattle.part_workers.specs.declared.part.Post.{Post}
 use Rattle.part_workers.specs.declared.part.PartSoFar.{PartSoFar}

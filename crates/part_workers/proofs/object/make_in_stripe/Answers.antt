@@ -1,7 +1,6 @@
-use Rattle.std.proofs.Common.{Some, ap, subst}
+use Rattle.std.proofs.Common.{subst}
 use Rattle.shared_table.specs.declared.view.Layout.{Layout}
 use Rattle.shared_table.specs.Past.{IsSound}
-use Rattle.shared_table.specs.Steps.{Mine}
 use Rattle.shared_table.proofs.Turns.{took_holds}
 use Rattle.part_workers.proofs.AtDesk.{ok_map}
 use Rattle.part_workers.proofs.AtObjects.{stamped_sound, holds_with, made_object, gave_free, gave_number, heard_of}

@@ -1,4 +1,3 @@
-use Rattle.std.proofs.Common.{◌≡◌, true, sym, ap, ◌∙◌}
 use Rattle.part_workers.specs.Needs.{Had, Took}
 use Rattle.part_workers.proofs.AtDesk.{ok_map}
 use Rattle.part_workers.proofs.slots.with_slot.Goals as goal
