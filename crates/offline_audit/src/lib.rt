@@ -1,4 +1,4 @@
-//! What comes before what in a recorded run, and so all of its races, whatever the shadow cells forgot.
+//! What happens before what in a recorded run. A list of all its races can stand on it, whatever the shadow cells forgot; there is none yet.
 //!
 //! Below stand `run_record`, with histories, and `run_laws`, with happens-before over a history's moments, without slots. An
 //! `Order` tells of any two events of a history whether one happens before the other (`Order::before`), also where the events
