@@ -1,10 +1,13 @@
 pub mod AtDesk
 pub mod AtObjects
+pub mod FirstTurn
 pub mod Given
 pub mod Going
 pub mod Keeping
 pub mod Making
 pub mod NextTurn
 pub mod Resting
+pub mod Sharing
 pub mod Taking
 pub mod Turning
+pub mod Working

@@ -24,8 +24,8 @@ use Rattle.hart_turns.specs.Makes.{hand_at}
 use Rattle.part_workers.specs.declared.part.Post.{Post}
 use Rattle.part_workers.specs.declared.part.PartSoFar.{PartSoFar}
 use Rattle.part_workers.specs.Parts.{note_entry}
-use Rattle.part_workers.specs.Turns.{TakesAtDesk, IsGivenIn}
-use Rattle.part_workers.specs.Needs.{HasSlot, Had, Took, GoesOn}
+use Rattle.part_workers.specs.Turns.{TakesAtDesk, TriesAtDesk, IsGivenIn}
+use Rattle.part_workers.specs.Needs.{HasSlot, Had, Took, Lacks, GoesOn, IsLiving, Goes, NeedsOne, FindsNoSlot}
 use Rattle.part_workers.specs.Standing.{Stands, IsGivenTo, MayMake, MadeTurn, MakesTurn}
 use Rattle.part_workers.proofs.Keeping.{steps_more}
 use Rattle.part_workers.proofs.Taking.{taken}
@@ -148,3 +148,22 @@ pub slot_same : (limits : Limits) (post : Post) (needs : Bool) (asked h2 : Hart)
 slot_same limits post needs asked h2 w p p2 log log2 s2 clock (Had _ has) left = let z : Some asked ≡ Some h2 = left in cc
 slot_same limits post needs asked h2 w p p2 log log2 s2 clock (Took _ _ _ _ needed unlabelled x) left =
     took_same limits post (record { hart = Some asked; watcher = w }) s2 p p2 clock log log2 asked h2 x refl left
+
+-- a thread that has arrived goes on, where it lives
+pub goes_arrived : (file : List ℕ) (limits : Limits) (post : Post) (s t : ThreadState) (p q : PartSoFar) (log new : Log) (o : Option Hart) → s.hart ≡ o →
+    (o ≡ None → ⊥) → GoesOn file limits post s t p q log new → Goes file limits post s t p q log new
+goes_arrived file limits post s t p q log new None is arrived g before living of_part a = absurd (arrived refl)
+goes_arrived file limits post s t p q log new (Some h) is arrived g before living of_part a = g h before is (subst IsLiving is living) of_part a
+
+-- the desk had no free slot, and the thread is the one that asked
+pub found_none : (file : List ℕ) (limits : Limits) (post : Post) (asked h : Hart) (s t : ThreadState) (r : Request) (needs : Bool) (p q : PartSoFar)
+    (log new : Log) → s.hart ≡ Some h → Asks file post.tid h asked r → needs ≡ thread_needs file post.tid (Some h.thread) → (needs ≡ true → IsUndone r) →
+    Lacks limits needs (record { hart = Some asked; watcher = s.watcher }) t p q log new → FindsNoSlot file limits post s t p q log new
+found_none file limits post asked h s t r needs p q log new is asks needs_is undone x =
+    let was : asked ≡ h = undone_same file post.tid h asked r (undone x.needed) asks in
+    let same : Some asked ≡ s.hart = ap Some was ∙ sym is in
+    record {
+      needs = subst (NeedsOne file post.tid) (sym is) (sym needs_is ∙ x.needed);
+      unlabelled = x.unlabelled;
+      tries = subst (λ (o : Option Hart). TriesAtDesk limits (record { hart = o; watcher = s.watcher }) t p q log new) same x.tries;
+    }

@@ -5,5 +5,7 @@ pub mod Objects
 pub mod Parts
 pub mod Places
 pub mod Rest
+pub mod Shares
 pub mod Standing
 pub mod Turns
+pub mod Works

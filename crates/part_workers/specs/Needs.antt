@@ -1,6 +1,7 @@
 -- A slot for the next instruction, where that needs one.
-use Rattle.std.specs.Prelude.{◌≡◌, ◌≢◌, ℕ, Bool, true, List, None, Some}
+use Rattle.std.specs.Prelude.{◌≡◌, ◌≢◌, ℕ, Bool, true, List, Option, None, Some}
 use Rattle.run_record.specs.declared.limits.Limits.{Limits}
+use Rattle.bare_machine.specs.Preview.{thread_needs}
 use Rattle.turn_orders.specs.LineUp.{Stamped}
 use Rattle.shared_table.specs.Past.{Log}
 use Rattle.placed_detector.specs.Standing.{Hand}
@@ -32,3 +33,25 @@ GoesOn file limits post old new p q log log' =
     (h : Hart) (before : Stamped Hand) → old.hart ≡ Some h → h.thread.lives ≡ true → IsOfPart limits post old →
     Stands file limits post before log (hand_of old None) p nothing →
     (y : Hart) × (new.hart ≡ Some y) × MadeTurn file limits post before log' y new.watcher p q
+
+-- the thread lives, where it has arrived
+abbrev pub IsLiving : Option Hart → Type 0
+IsLiving None = Unit {0}
+IsLiving (Some h) = h.thread.lives ≡ true
+
+-- What stands of a part whose thread lives, or hasn't arrived, stands so with its next instruction, and nothing is owed.
+abbrev pub Goes : List ℕ → Limits → Post → ThreadState → ThreadState → PartSoFar → PartSoFar → Log → Log → Type 0
+Goes file limits post old new p q log log' =
+    (before : Stamped Hand) → IsLiving old.hart → IsOfPart limits post old → Stands file limits post before log (hand_of old None) p nothing →
+    (y : Hart) × (new.hart ≡ Some y) × MadeTurn file limits post before log' y new.watcher p q
+
+-- its next instruction needs a slot, as the first one does
+abbrev pub NeedsOne : List ℕ → ℕ → Option Hart → Type 0
+NeedsOne file t None = Unit {0}
+NeedsOne file t (Some h) = thread_needs file t (Some h.thread) ≡ true
+
+-- The thread's next instruction needs a slot, the thread has none, and a turn of the desk found none that is free.
+pub record FindsNoSlot (file : List ℕ) (limits : Limits) (post : Post) (old new : ThreadState) (p q : PartSoFar) (log log' : Log) : Type 0 where
+  pub needs : NeedsOne file post.tid old.hart
+  pub unlabelled : old.watcher.label ≡ None
+  pub tries : TriesAtDesk limits old new p q log log'

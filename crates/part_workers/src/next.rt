@@ -1,9 +1,9 @@
 // The next instruction of a thread that has arrived, with the slot that it needs.
-ghost use Rattle.std.specs.Prelude.{◌≡◌, true, Some, IfOk};
+ghost use Rattle.std.specs.Prelude.{◌≡◌, true, false, Some, IfOk};
 ghost use Rattle.bare_machine.specs.Asked.{IsUndone};
 ghost use Rattle.shared_table.specs.Layouts.{IsTableOf};
 ghost use Rattle.shared_table.specs.Seats.{IsSeatOf, IsFree};
-ghost use Rattle.part_workers.specs.Needs.{GoesOn};
+ghost use Rattle.part_workers.specs.Needs.{GoesOn, FindsNoSlot};
 
 use crate::part::{PartSoFar, Post};
 use crate::slots::with_slot;
@@ -54,6 +54,8 @@ pub fn go_on<R: Wait, G: Gate>(
     ensures free { IsFree seat.new.me }
     ensures number { seat.new.me.0.number ≡ seat.old.me.0.number }
     ensures goes { IfOk result (λ r. r ≡ true → GoesOn image.now limits.now post.now state.old state.new part.old part.new
+        seat.old.me.0.log seat.new.me.0.log) }
+    ensures none { IfOk result (λ r. r ≡ false → FindsNoSlot image.now limits.now post.now state.old state.new part.old part.new
         seat.old.me.0.log seat.new.me.0.log) }
 {
     let Some(hart) = &mut state.hart else {
