@@ -1,0 +1,16 @@
+pub mod Sorts
+pub mod Tellings
+pub mod Kept
+pub mod Hiring
+pub mod Taking
+pub mod Resting
+pub mod MadeParts
+pub mod Idle
+pub mod Mapped
+pub mod OneMore
+pub mod AtEnd
+pub mod Starting
+pub mod Over
+pub mod Lists
+pub mod Readings
+pub mod Ending
