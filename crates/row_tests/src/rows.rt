@@ -16,9 +16,11 @@ mod words;
 use crate::{AssemblyError, Form, assemble};
 use std::alloc::{AllocError, Global};
 use std::process::Abort;
+use std::sync::Wait;
 use std::test::Fail;
-use tool_ports::{MemoryFiles, MemorySink};
-use tsanrun_cli::{Ended, tool_step};
+use std::thread::Threads;
+use tool_ports::{MemoryFiles, MemorySink, OpenGate};
+use tsanrun_cli::{Ended, tool, tool_step};
 
 /// What a call of the command leaves.
 #[derive(Drop)]
@@ -63,13 +65,33 @@ fn call_over(alloc: Global, words: &[&str], ports: &Ports<'_>) -> Result<Answer,
     call_words(alloc, &given, ports)
 }
 
-fn call_words(alloc: Global, given: &[String], ports: &Ports<'_>) -> Result<Answer, Fail> {
+fn files_of(alloc: Global, ports: &Ports<'_>) -> Result<MemoryFiles, Fail> {
     let mut files = MemoryFiles::new(alloc, ports.failing_reads)?;
     files.add("p", ports.file)?;
     files.add("rules", ports.rules)?;
+    Ok(files)
+}
+
+fn call_words(alloc: Global, given: &[String], ports: &Ports<'_>) -> Result<Answer, Fail> {
+    let mut files = files_of(alloc, ports)?;
     let mut out = MemorySink::new(alloc, ROOM, &[])?;
     let mut err = MemorySink::new(alloc, ROOM, ports.failing_puts)?;
     let ended = tool_step(alloc, given, &mut files, &mut out, &mut err);
+    Ok(Answer { out, err, ended })
+}
+
+/// Calls the command that also runs threads at once.
+fn call_whole<R: Threads + Wait + Sync>(
+    rt: &R,
+    alloc: Global,
+    given: &[String],
+    ports: &Ports<'_>,
+) -> Result<Answer, Fail> {
+    let mut files = files_of(alloc, ports)?;
+    let mut out = MemorySink::new(alloc, ROOM, &[])?;
+    let mut err = MemorySink::new(alloc, ROOM, ports.failing_puts)?;
+    let gate = OpenGate;
+    let ended = tool(rt, alloc, given, &mut files, &mut out, &mut err, &gate);
     Ok(Answer { out, err, ended })
 }
 

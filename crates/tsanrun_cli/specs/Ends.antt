@@ -26,13 +26,14 @@ use Rattle.tsanrun_cli.specs.Texts.{Tells, out_text, err_text}
 abbrev pub file_limit : ℕ
 file_limit = 25165824
 
--- Threads can't run at once yet: the command `run` is refused as no command.
+-- Where nobody is waited for, threads can't run at once: the command `run` is refused as no command.
 abbrev pub one_by_one : RequestText → TaskText → Result RequestText UsageFault
 one_by_one request (run file) = Err usage.Command
 one_by_one request (step file) = Ok request
 one_by_one request (locks file) = Ok request
 one_by_one request (generate seed size) = Ok request
 
+-- what is served where nobody is waited for
 abbrev pub served : Result RequestText UsageFault → Result RequestText UsageFault
 served (Err fault) = Err fault
 served (Ok request) = one_by_one request request.task

@@ -1,11 +1,17 @@
 -- A run before it is written.
-use Rattle.std.specs.Prelude.{◌≡◌, ℕ, List, [], Option, Some, Result, Ok, Err, map, string_bytes, if◌then◌else◌}
+use Rattle.std.specs.Prelude.{◌≡◌, ℕ, false, List, [], ◌++◌, Option, Some, Result, Ok, Err, map, string_bytes, if◌then◌else◌}
 use Rattle.std.specs.List.{flat_map}
 use Rattle.std.specs.declared.string.String.{String}
 use Rattle.std.specs.declared.vec.Vec.{Vec}
 use Rattle.std.specs.declared.alloc.Global.{Global}
 use Rattle.tool_ports.specs.Ports.{Rose}
+use Rattle.command_words.specs.declared.request.UsageFault.{UsageFault}
 use Rattle.command_words.specs.Requests.{RequestText, request_of}
+use Rattle.elf_image.specs.File.{image_of}
+use Rattle.run_record.specs.declared.finished.Finished.{Finished}
+use Rattle.symbol_lines.specs.Frames.{Tables, frame_in}
+use Rattle.report_text.specs.Texts.{report_text, summary_of}
+use Rattle.report_text.specs.Status.{status_of}
 use Rattle.suppress_rules.specs.declared.rule.Rule.{Rule}
 use Rattle.suppress_rules.specs.RuleFile.{rules_of}
 use Rattle.whole_runs.specs.Run.{IsRun}
@@ -15,8 +21,13 @@ use Rattle.tsanrun_cli.specs.declared.ended.End.TheVariants.{Done, Usage, Elf, R
 use Rattle.tsanrun_cli.specs.Ends.{Call, served, HasShortFile, HasLongFile, AreRules, IsRunOf, mode_of, suppressed_by}
 use Rattle.tsanrun_cli.specs.Texts.{Tells, is_alone}
 
+-- a call of the commands that wait for nobody
 abbrev pub call_of : List (String Global) → Option (List (List ℕ × List ℕ)) → ℕ → ℕ → List ℕ → Call
 call_of words told before after failed = record { asked = served (request_of (map string_bytes words)); told = told; reads_before = before; reads_after = after; failed = failed }
+
+-- a call of all commands
+abbrev pub whole_call_of : List (String Global) → Option (List (List ℕ × List ℕ)) → ℕ → ℕ → List ℕ → Call
+whole_call_of words told before after failed = record { asked = request_of (map string_bytes words); told = told; reads_before = before; reads_after = after; failed = failed }
 
 -- a call whose words ask for that
 abbrev pub asking : RequestText → Option (List (List ℕ × List ℕ)) → ℕ → ℕ → List ℕ → Call
@@ -46,6 +57,35 @@ pub record IsTold (request : RequestText) (bytes : List ℕ) (rules : List Rule)
   pub run : IsRun (mode_of request.task) bytes request.limits request.plan (suppressed_by rules bytes) t.finished
   pub tells : Tells request.task bytes t.finished (flat_map bytes_of t.texts.items) t.status
   pub alone_is : t.alone ≡ is_alone request.task
+
+-- why nothing is asked for
+abbrev pub IsUnasked : Result RequestText UsageFault → End → Type 0
+IsUnasked asked (Usage fault) = asked ≡ Err fault
+IsUnasked asked NoMemory = Unit {0}
+IsUnasked asked Done = ⊥
+IsUnasked asked (Elf fault) = ⊥
+IsUnasked asked (Rules fault) = ⊥
+IsUnasked asked FileTooLong = ⊥
+IsUnasked asked ReadFault = ⊥
+IsUnasked asked WriteFault = ⊥
+
+-- why the loader refuses these bytes
+abbrev pub IsUnaccepted : List ℕ → End → Type 0
+IsUnaccepted bytes (Elf fault) = image_of bytes ≡ Err fault
+IsUnaccepted bytes NoMemory = Unit {0}
+IsUnaccepted bytes Done = ⊥
+IsUnaccepted bytes (Usage fault) = ⊥
+IsUnaccepted bytes (Rules fault) = ⊥
+IsUnaccepted bytes FileTooLong = ⊥
+IsUnaccepted bytes ReadFault = ⊥
+IsUnaccepted bytes WriteFault = ⊥
+
+-- the run and the texts of its reports, with the names that the tables tell
+pub record AreReportsTold (tables : Tables) (f : Finished) (t : Told) : Type 0 where
+  pub finished_is : t.finished ≡ f
+  pub text_is : flat_map bytes_of t.texts.items ≡ flat_map (report_text (frame_in tables)) f.reports ++ summary_of f
+  pub status_is : t.status ≡ status_of f
+  pub alone_is : t.alone ≡ false
 
 -- ---- reads
 

@@ -1,16 +1,16 @@
 // From the words to a run and the texts that tell of it.
-ghost use Rattle.std.specs.Prelude.{◌≡◌, ◌≤◌, ℕ, List, [], Ok, Some, IfOk, MatchResult, nat_lt, if◌then◌else◌};
+ghost use Rattle.std.specs.Prelude.{◌≡◌, ◌≤◌, ℕ, List, [], Ok, Some, IfOk, IfErr, OnOk, MatchResult, map, string_bytes, nat_lt, if◌then◌else◌};
 ghost use Rattle.std.specs.Option.{option_map};
 ghost use Rattle.elf_image.specs.File.{image_of};
-ghost use Rattle.command_words.specs.Requests.{request_text, step as asks_step, locks as asks_locks, generate as asks_generate};
+ghost use Rattle.command_words.specs.Requests.{request_text, task_text, request_of, IsTask, run as asks_run, step as asks_step, locks as asks_locks, generate as asks_generate};
 ghost use Rattle.gen_program.specs.Program.{program};
 ghost use Rattle.symbol_lines.specs.Frames.{tables_of};
 ghost use Rattle.whole_runs.specs.Run.{IsRun};
-ghost use Rattle.run_laws.specs.Faithful.{OneByOne};
+ghost use Rattle.run_laws.specs.Faithful.{OneByOne, AtOnce};
 ghost use Rattle.thread_turns.specs.Ranges.{AreLimits};
 ghost use Rattle.report_text.specs.Status as status;
 ghost use Rattle.tsanrun_cli.specs.Ends.{Refuses, suppressed_by, named_executable, mode_of};
-ghost use Rattle.tsanrun_cli.specs.Work.{HasRun, IsTold, IsRead, AreRulesRead, call_of, asking};
+ghost use Rattle.tsanrun_cli.specs.Work.{HasRun, IsTold, AreReportsTold, IsUnasked, IsUnaccepted, IsRead, AreRulesRead, call_of, whole_call_of, asking};
 
 use crate::End;
 use crate::named_rules::NamedRules;
@@ -18,14 +18,17 @@ use crate::texts::{made_texts, report_texts};
 use command_words::{Refusal, Request, Task, UsageFault, read_words};
 use elf_image::{ElfFault, Image, load};
 use gen_program::make;
+use hart_workers::run_rounds;
 use lock_order::lock_text;
 use report_text::{end_status, status_of};
 use run_record::{Finished, GuestEnd, NoMemory};
 use std::alloc::Global;
+use std::sync::Wait;
+use std::thread::Threads;
 use step_engine::run_plan;
 use suppress_rules::{RuleFault, Rules};
 use symbol_lines::Names;
-use tool_ports::{FileFault, Files};
+use tool_ports::{FileFault, Files, Gate};
 
 /// A run, and the pieces of what tells of it.
 #[derive(Drop)]
@@ -39,21 +42,69 @@ pub struct Told {
 
 const FILE_LIMIT: usize = 25_165_824;
 
-/// The run that the words ask for.
+/// What the words ask for.
+fn read_request<'a>(alloc: Global, words: &'a [String]) -> Result<Request<'a>, End>
+    ensures told { let asked = request_of (map string_bytes words.entry.now) in
+        MatchResult result (λ request. asked ≡ Ok (request_text request)) (IsUnasked asked) }
+    ensures limits { IfOk result (λ request. AreLimits request.limits) }
+    ensures task { IfOk result (λ request. IsTask (task_text request.task)) }
+{
+    match read_words(alloc, words) {
+        Ok(request) => Ok(request),
+        Err(Refusal::Usage(fault)) => Err(End::Usage(fault)),
+        Err(Refusal::NoMemory) => Err(End::NoMemory),
+    }
+}
+
+/// The run that the words ask for, if its threads go one at a time.
 pub fn work<F: Files>(alloc: Global, words: &[String], files: &mut F) -> Result<Told, End>
     ensures same { F.contents files.new ≡ F.contents files.old }
     ensures run { let call = call_of words.now (F.contents files.old) (F.faults files.old) (F.faults files.new) (F.failed files.new) in
         MatchResult result (HasRun call) (Refuses call) }
 {
-    let request = match read_words(alloc, words) {
-        Ok(request) => request,
-        Err(Refusal::Usage(fault)) => return Err(End::Usage(fault)),
-        Err(Refusal::NoMemory) => return Err(End::NoMemory),
-    };
+    let request = read_request(alloc, words)?;
     match request.task {
         Task::Run { .. } => Err(End::Usage(UsageFault::Command)),
-        Task::Step { file } | Task::Locks { file } => step(alloc, &request, file, files),
-        Task::Generate { seed, size } => match generate(alloc, &request, seed, size) {
+        Task::Step { .. } | Task::Locks { .. } | Task::Generate { .. } => {
+            serve(alloc, &request, files)
+        }
+    }
+}
+
+/// The run that the words ask for: of `run` its threads go at once.
+pub fn whole_work<R: Threads + Wait + Sync, F: Files, G: Gate + Sync>(
+    rt: &R,
+    alloc: Global,
+    words: &[String],
+    files: &mut F,
+    gate: &G,
+) -> Result<Told, End>
+    ensures same { F.contents files.new ≡ F.contents files.old }
+    ensures run { let call = whole_call_of words.now (F.contents files.old) (F.faults files.old) (F.faults files.new) (F.failed files.new) in
+        MatchResult result (HasRun call) (Refuses call) }
+{
+    let request = read_request(alloc, words)?;
+    match request.task {
+        Task::Run { file } => rounds(rt, alloc, &request, file, files, gate),
+        Task::Step { .. } | Task::Locks { .. } | Task::Generate { .. } => {
+            serve(alloc, &request, files)
+        }
+    }
+}
+
+/// The run that is asked for, one thread at a time.
+fn serve<F: Files>(alloc: Global, request: &Request<'_>, files: &mut F) -> Result<Told, End>
+    requires limits { AreLimits request.now.limits }
+    requires task { IsTask (task_text request.now.task) }
+    requires mode { mode_of (task_text request.now.task) ≡ OneByOne }
+    ensures same { F.contents files.new ≡ F.contents files.old }
+    ensures run { let call = asking (request_text request.now) (F.contents files.old) (F.faults files.old) (F.faults files.new) (F.failed files.new) in
+        MatchResult result (HasRun call) (Refuses call) }
+{
+    match request.task {
+        Task::Run { .. } => unreachable!(),
+        Task::Step { file } | Task::Locks { file } => step(alloc, request, file, files),
+        Task::Generate { seed, size } => match generate(alloc, request, seed, size) {
             Ok(told) => Ok(told),
             Err(NoMemory) => Err(End::NoMemory),
         },
@@ -89,6 +140,19 @@ fn read_rules<F: Files>(alloc: Global, files: &mut F, name: Option<&str>) -> Res
     }
 }
 
+/// The executable that a file holds, if the loader accepts it.
+fn accept<'a>(alloc: Global, bytes: &'a [u8]) -> Result<Image<'a>, End>
+    ensures image { IfOk result (λ image. image ≡ bytes.now) }
+    ensures accepted { OnOk result (image_of bytes.now ≡ Ok bytes.now) }
+    ensures refused { IfErr result (IsUnaccepted bytes.now) }
+{
+    match load(alloc, bytes) {
+        Ok(image) => Ok(image),
+        Err(ElfFault::NoMemory) => Err(End::NoMemory),
+        Err(fault) => Err(End::Elf(fault)),
+    }
+}
+
 /// The run of the named file, one thread at a time.
 fn step<F: Files>(
     alloc: Global,
@@ -104,13 +168,34 @@ fn step<F: Files>(
         MatchResult result (HasRun call) (Refuses call) }
 {
     let bytes = read(files, file)?;
-    let image = match load(alloc, bytes.as_slice()) {
-        Ok(image) => image,
-        Err(ElfFault::NoMemory) => return Err(End::NoMemory),
-        Err(fault) => return Err(End::Elf(fault)),
-    };
+    let image = accept(alloc, bytes.as_slice())?;
     let rules = read_rules(alloc, files, request.suppressions)?;
     match told_image(alloc, &image, request, &rules) {
+        Ok(told) => Ok(told),
+        Err(NoMemory) => Err(End::NoMemory),
+    }
+}
+
+/// The run of the named file, its threads at once.
+fn rounds<R: Threads + Wait + Sync, F: Files, G: Gate + Sync>(
+    rt: &R,
+    alloc: Global,
+    request: &Request<'_>,
+    file: &str,
+    files: &mut F,
+    gate: &G,
+) -> Result<Told, End>
+    requires limits { AreLimits request.now.limits }
+    requires names { named_executable (request_text request.now).task ≡ Some file.now }
+    requires mode { mode_of (request_text request.now).task ≡ AtOnce }
+    ensures same { F.contents files.new ≡ F.contents files.old }
+    ensures run { let call = asking (request_text request.now) (F.contents files.old) (F.faults files.old) (F.faults files.new) (F.failed files.new) in
+        MatchResult result (HasRun call) (Refuses call) }
+{
+    let bytes = read(files, file)?;
+    let image = accept(alloc, bytes.as_slice())?;
+    let rules = read_rules(alloc, files, request.suppressions)?;
+    match rounds_image(rt, alloc, &image, request, &rules, gate) {
         Ok(told) => Ok(told),
         Err(NoMemory) => Err(End::NoMemory),
     }
@@ -133,6 +218,39 @@ fn run_named(
     run_plan(alloc, image, &request.limits, &request.plan, &suppressions)
 }
 
+/// The same, its threads at once.
+fn rounds_named<R: Threads + Wait + Sync, G: Gate + Sync>(
+    rt: &R,
+    alloc: Global,
+    image: &Image<'_>,
+    names: &Names<'_>,
+    request: &Request<'_>,
+    rules: &Rules,
+    gate: &G,
+) -> Result<Finished, NoMemory>
+    requires limits { AreLimits request.now.limits }
+    requires names { names.now ≡ tables_of image.now }
+    ensures { let meets = suppressed_by rules.now image.now in
+        IfOk result (IsRun AtOnce image.now request.now.limits request.now.plan meets) }
+{
+    let suppressions = NamedRules { rules, names };
+    run_rounds(rt, alloc, image, &request.limits, gate, &suppressions)
+}
+
+/// A run with the texts of its reports.
+fn tell_reports(alloc: Global, finished: Finished, names: &Names<'_>) -> Result<Told, NoMemory>
+    ensures { IfOk result (AreReportsTold names.now finished) }
+{
+    let texts = report_texts(alloc, &finished, names)?;
+    let status = status_of(&finished);
+    Ok(Told {
+        finished,
+        texts,
+        alone: false,
+        status,
+    })
+}
+
 /// The run of an executable, with its reports.
 fn step_image(
     alloc: Global,
@@ -145,14 +263,24 @@ fn step_image(
 {
     let names = Names::read(alloc, image)?;
     let finished = run_named(alloc, image, &names, request, rules)?;
-    let texts = report_texts(alloc, &finished, &names)?;
-    let status = status_of(&finished);
-    Ok(Told {
-        finished,
-        texts,
-        alone: false,
-        status,
-    })
+    tell_reports(alloc, finished, &names)
+}
+
+/// The run of an executable whose threads go at once, with its reports.
+fn rounds_image<R: Threads + Wait + Sync, G: Gate + Sync>(
+    rt: &R,
+    alloc: Global,
+    image: &Image<'_>,
+    request: &Request<'_>,
+    rules: &Rules,
+    gate: &G,
+) -> Result<Told, NoMemory>
+    requires limits { AreLimits request.now.limits }
+    ensures { (file : List ℕ) → (request_text request.now).task ≡ asks_run file → IfOk result (IsTold (request_text request.now) image.now rules.now) }
+{
+    let names = Names::read(alloc, image)?;
+    let finished = rounds_named(rt, alloc, image, &names, request, rules, gate)?;
+    tell_reports(alloc, finished, &names)
 }
 
 /// The status of `locks`: 66 where there is a cycle, and else that of the run's end.

@@ -159,7 +159,51 @@ fn add_plan(alloc: Global, words: &mut Vec<String>, draws: &mut Draws) -> Result
     Ok(())
 }
 
-/// The run of a program under such limits.
+/// The words of a call under such limits, with a plan where the command has one.
+fn words_of(
+    alloc: Global,
+    command: &str,
+    planned: bool,
+    draws: &mut Draws,
+) -> Result<Vec<String>, AllocError> {
+    let mut words = Vec::new(alloc);
+    words.push(String::from_str(alloc, command)?)?;
+    words.push(String::from_str(alloc, "p")?)?;
+    add_limits(alloc, &mut words, draws)?;
+    if planned {
+        add_plan(alloc, &mut words, draws)?;
+    }
+    Ok(words)
+}
+
+fn ports_over(file: &[u8]) -> Ports<'_> {
+    Ports {
+        file,
+        rules: b"",
+        failing_reads: &[],
+        failing_puts: &[],
+    }
+}
+
+/// What a call keeps.
+fn kept_by<R: Abort>(rt: &R, answer: Answer) -> Finished {
+    let Answer {
+        out: _out,
+        err: _err,
+        ended,
+    } = answer;
+    let Ended {
+        status: _status,
+        end: _end,
+        kept,
+    } = ended;
+    match kept {
+        Some(finished) => finished,
+        None => panic!(rt; "nothing is kept"),
+    }
+}
+
+/// The run of a program under such limits, one thread at a time.
 fn run<R: Abort>(
     rt: &R,
     alloc: Global,
@@ -167,32 +211,22 @@ fn run<R: Abort>(
     draws: &mut Draws,
 ) -> Result<Finished, Fail> {
     let file = assemble(alloc, program, &Form::PLAIN)?;
-    let mut words = Vec::new(alloc);
-    for word in ["step", "p"].iter() {
-        words.push(String::from_str(alloc, word)?)?;
-    }
-    add_limits(alloc, &mut words, draws)?;
-    add_plan(alloc, &mut words, draws)?;
-    let ports = Ports {
-        file: &file,
-        rules: b"",
-        failing_reads: &[],
-        failing_puts: &[],
-    };
-    let Answer {
-        out: _out,
-        err: _err,
-        ended,
-    } = call_words(alloc, &words, &ports)?;
-    let Ended {
-        status: _status,
-        end: _end,
-        kept,
-    } = ended;
-    match kept {
-        Some(finished) => Ok(finished),
-        None => panic!(rt; "nothing is kept"),
-    }
+    let words = words_of(alloc, "step", true, draws)?;
+    let answer = call_words(alloc, &words, &ports_over(&file))?;
+    Ok(kept_by(rt, answer))
+}
+
+/// The run of a program under such limits, its threads at once.
+fn run_at_once<R: Abort + Threads + Wait + Sync>(
+    rt: &R,
+    alloc: Global,
+    program: &str,
+    draws: &mut Draws,
+) -> Result<Finished, Fail> {
+    let file = assemble(alloc, program, &Form::PLAIN)?;
+    let words = words_of(alloc, "run", false, draws)?;
+    let answer = call_whole(rt, alloc, &words, &ports_over(&file))?;
+    Ok(kept_by(rt, answer))
 }
 
 #[test]
@@ -207,5 +241,21 @@ fn reports_are_those_of_a_plain_closure(rt: HostRuntime) -> Result<(), Fail> {
         races = races.saturating_add(found);
     }
     assert!(rt; races > 1_000);
+    Ok(())
+}
+
+// Which races there are depends on the host; that there are many doesn't.
+#[test]
+fn reports_at_once_are_those_of_a_plain_closure(rt: HostRuntime) -> Result<(), Fail> {
+    let alloc = rt.alloc();
+    let mut draws = Draws { state: 2 };
+    let mut races = 0usize;
+    for _ in 0..500 {
+        let text = program(alloc, &mut draws)?;
+        let finished = run_at_once(&rt, alloc, text.as_str(), &mut draws)?;
+        let found = check_races(&rt, alloc, &finished, text.as_str())?;
+        races = races.saturating_add(found);
+    }
+    assert!(rt; races > 500);
     Ok(())
 }
