@@ -1,13 +1,13 @@
 -- What happens before an event is what its thread knew, and what was left at the place that it takes from.
-use Rattle.std.proofs.Common.{◌≡◌, ℕ, suc, ◌<◌, ◌≤◌, ◌⊎◌, true, false, Some, refl, sym, ap, subst, inl, inr, lt_trans, ◌∙◌, arith}
+use Rattle.std.proofs.Common.{◌≡◌, ℕ, suc, ◌<◌, ◌⊎◌, true, false, Some, refl, sym, ap, subst, inl, inr, lt_trans, ◌∙◌, arith}
 use Rattle.std.proofs.lemmas.Bool.{cases_eq}
 use Rattle.run_record.specs.declared.event.Event.{Event}
 use Rattle.run_record.specs.declared.event.Event.TheVariants.{Begin, Create, Join, Acquire}
 use Rattle.run_laws.specs.Moments.{Item, Does, Notes, NewEra, Past}
-use Rattle.run_laws.specs.HappensBefore.{item_ends_channel, HappensBefore, Pair, Program, Released, Created, Joined, One, Then}
+use Rattle.run_laws.specs.HappensBefore.{HappensBefore, Pair, Program, Released, Created, Joined, One, Then}
 use Rattle.run_laws.specs.Clocks.{Place, Channel, Given, Ended, taken_from, left_at}
 use Rattle.run_laws.proofs.Places.{is_place-true, is_place-some, left_channel, left_given, left_ended, taken_channel, taken_given, taken_ended}
-use Rattle.offline_audit.specs.Knowledge.{empties, item_empties, item_leaves, IsUpto, IsLeft, IsKnown}
+use Rattle.offline_audit.specs.Knowledge.{item_empties, item_leaves, IsUpto, IsLeft, IsKnown}
 
 pub does_thread : (t u : ℕ) (v w : Event) → Does t v ≡ Does u w → t ≡ u
 does_thread t u v w e = cc

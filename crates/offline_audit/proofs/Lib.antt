@@ -5,3 +5,10 @@ pub mod StandsLaw
 pub mod OrderLaws
 pub mod MomentPlaces
 pub mod MutexLaws
+pub mod PairLists
+pub mod PassageLaw
+pub mod AccessLaw
+pub mod GroupLaw
+pub mod RaceLaw
+pub mod NameLaw
+pub mod FoundLaw

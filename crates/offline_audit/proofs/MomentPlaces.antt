@@ -1,8 +1,8 @@
 -- Where the moments of an entry stand, and what stands there.
-use Rattle.std.proofs.Common.{◌≡◌, ℕ, zero, suc, ◌+◌, ◌-◌, ◌<◌, ◌≤◌, Bool, true, false, if◌then◌else◌, List, [], ◌∷◌, ◌++◌, length, map, get_or, Option, Some, refl, sym, ap, ◌∙◌, subst, inl, inr, arith, append_assoc, length-append, take}
+use Rattle.std.proofs.Common.{◌≡◌, ℕ, zero, suc, ◌+◌, ◌-◌, ◌<◌, ◌≤◌, Bool, true, false, if◌then◌else◌, List, [], ◌∷◌, ◌++◌, length, map, get_or, Some, refl, sym, ap, ◌∙◌, subst, inl, inr, arith, append_assoc, length-append, take}
 use Rattle.std.specs.Prelude.{slice_get, slice_index_or, drop, replicate, ◌^◌}
 use Rattle.std.specs.List.{enumerate_from}
-use Rattle.std.proofs.lemmas.Bool.{cases_eq, cases_lt}
+use Rattle.std.proofs.lemmas.Bool.{cases_lt}
 use Rattle.std.proofs.lemmas.List.{get_or-append-add, get_or-replicate, get_or_default, take-append-drop, length-replicate, length-map}
 use Rattle.std.proofs.lemmas.List.FromFn.{get_or-enumerate_from, length-enumerate_from}
 use Rattle.std.proofs.lemmas.Option.{get_or_from_slice_get, slice_get_cases}
@@ -114,13 +114,13 @@ module _ (entries : List Entry) (k : ℕ) (e : Entry) (l : k < length entries) (
   whole_eras : moments entries ≡ moments before ++ (replicate eras era ++ (entry_moments (length before) e ++ rest))
   whole_eras = whole ∙ append_assoc (moments before) (replicate eras era) (entry_moments (length before) e ++ rest)
 
-  at_era : (j : ℕ) → j < eras → items (moments entries) (length (moments before) + j) ≡ NewEra
+  pub at_era : (j : ℕ) → j < eras → items (moments entries) (length (moments before) + j) ≡ NewEra
   at_era j m =
       ap (λ (ms : List Moment). (get_or ms (length (moments before) + j) past).item) whole_eras
       ∙ (ap (λ (x : Moment). x.item) (middle (moments before) (replicate eras era) (entry_moments (length before) e ++ rest) j (let r = length-replicate eras era in omega arith))
       ∙ ap (λ (x : Moment). x.item) (get_or-replicate eras j era past m))
 
-  length_eras : length (moments_in e.round e.era before) ≡ length (moments before) + eras
+  pub length_eras : length (moments_in e.round e.era before) ≡ length (moments before) + eras
   length_eras = length-append (moments before) (replicate eras era) ∙ ap (λ (n : ℕ). length (moments before) + n) (length-replicate eras era)
 
   length_entry : length (entry_moments (length before) e) ≡ suc (length e.events)
@@ -132,7 +132,7 @@ module _ (entries : List Entry) (k : ℕ) (e : Entry) (l : k < length entries) (
       ap (λ (ms : List Moment). (get_or ms (length (moments_in e.round e.era before) + n) past).item) whole
       ∙ ap (λ (x : Moment). x.item) (middle (moments_in e.round e.era before) (entry_moments (length before) e) rest n (let r = length_entry in omega arith))
 
-  at_note : items (moments entries) (length (moments before) + eras) ≡ Notes e.tid e.note
+  pub at_note : items (moments entries) (length (moments before) + eras) ≡ Notes e.tid e.note
   at_note =
       let q : length (moments before) + eras ≡ length (moments_in e.round e.era before) + 0 = let r = length_eras in omega arith in
       ap (items (moments entries)) q ∙ at_entry 0 (omega arith)

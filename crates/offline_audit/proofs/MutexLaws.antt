@@ -1,5 +1,5 @@
 -- What stands where the events of mutexes are left out.
-use Rattle.std.proofs.Common.{◌≡◌, ℕ, suc, ◌+◌, ◌-◌, ◌<◌, ◌==◌, max, Bool, true, false, nat_lt, if◌then◌else◌, List, [], refl, sym, ap, ◌∙◌, subst, inl, inr, arith}
+use Rattle.std.proofs.Common.{◌≡◌, ℕ, suc, ◌-◌, ◌==◌, max, Bool, true, false, nat_lt, if◌then◌else◌, [], sym, ap, ◌∙◌, inl, inr, arith}
 use Rattle.std.specs.BTreeMap.{BTreeMap}
 use Rattle.std.proofs.lemmas.Bool.{cases_Bool}
 use Rattle.run_record.specs.declared.event.Event.{Event}

@@ -1,7 +1,7 @@
 -- What an order tells of two events.
-use Rattle.std.proofs.Common.{◌≡◌, ℕ, zero, suc, ◌+◌, ◌<◌, ◌≤◌, ◌↔◌, Bool, true, List, length, refl, sym, ap, ◌∙◌, subst, inl, inr, arith, leb, Option, Some, None, nat_lt, false}
-use Rattle.std.specs.Prelude.{IsTrue, slice_index_or, slice_get, ◌-◌}
-use Rattle.std.specs.List.{All, Contains, AllWithin}
+use Rattle.std.proofs.Common.{◌≡◌, ℕ, ◌<◌, ◌≤◌, ◌↔◌, true, List, length, sym, ap, ◌∙◌, subst, inl, inr, arith, leb, Option, Some, None, nat_lt, false}
+use Rattle.std.specs.Prelude.{IsTrue, slice_index_or}
+use Rattle.std.specs.List.{AllWithin}
 use Rattle.std.specs.List.Sorted.{IsNonDecreasingBy}
 use Rattle.std.proofs.lemmas.Bool.{cases_eq, cases_lt, lt-ltb}
 use Rattle.std.proofs.lemmas.List.{get_or_default}
@@ -11,8 +11,8 @@ use Rattle.run_laws.specs.Moments.{Item, Does}
 use Rattle.run_laws.specs.HappensBefore.{HappensBefore, Program, One}
 use Rattle.offline_audit.specs.declared.heard.Step.{Step}
 use Rattle.offline_audit.specs.declared.order.Order.{Order}
-use Rattle.offline_audit.specs.Heard.{Tell, TellBy, AreRising}
-use Rattle.offline_audit.specs.Known.{AreNumbers, AreHeard, steps_between}
+use Rattle.offline_audit.specs.Heard.{TellBy, AreRising}
+use Rattle.offline_audit.specs.Known.{steps_between}
 use Rattle.offline_audit.specs.Orders.{TellsOrder}
 use Rattle.offline_audit.proofs.KnowledgeLaw.{before-lt}
 use Rattle.offline_audit.proofs.StandsLaw.{number-lt, number-le}

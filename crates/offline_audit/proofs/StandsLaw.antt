@@ -1,5 +1,5 @@
 -- What is known after so many moments is what happens before: it stands from one to the next.
-use Rattle.std.proofs.Common.{◌≡◌, ℕ, zero, suc, ◌+◌, ◌<◌, ◌≤◌, ◌==◌, ◌⊎◌, ◌↔◌, max, Bool, true, false, if◌then◌else◌, Option, Some, None, List, refl, sym, ap, ◌∙◌, subst, inl, inr, arith, eq-eqb, ne_eqb}
+use Rattle.std.proofs.Common.{◌≡◌, ℕ, zero, suc, ◌<◌, ◌≤◌, ◌⊎◌, ◌↔◌, max, Bool, true, false, if◌then◌else◌, Option, Some, None, List, refl, sym, ap, ◌∙◌, subst, inl, inr, arith, eq-eqb, ne_eqb}
 use Rattle.std.specs.List.{All}
 use Rattle.std.proofs.lemmas.Bool.{cases_eq, cases_order, cases_lt}
 use Rattle.run_record.specs.declared.event.Event.{Event}
@@ -8,7 +8,7 @@ use Rattle.run_laws.specs.HappensBefore.{HappensBefore, Program, One}
 use Rattle.run_laws.specs.Clocks.{Place, Channel, Given, Ended, taken_from, left_at, is_place}
 use Rattle.offline_audit.specs.declared.heard.Step.{Step}
 use Rattle.offline_audit.specs.declared.known.Known.{Known}
-use Rattle.offline_audit.specs.Heard.{latest, steps_after, Tell, TellBy, AreRising}
+use Rattle.offline_audit.specs.Heard.{steps_after, Tell, AreRising}
 use Rattle.offline_audit.specs.Knowledge.{empties, item_empties, item_leaves, IsUpto, IsLeft, IsKnown}
 use Rattle.offline_audit.specs.Known.{told, told_from, steps_between, AreNumbers, AreHeard, Stands, own_or_latest, GoesOn}
 use Rattle.offline_audit.proofs.KnowledgeLaw.{does_thread, before-lt, known_before, left_before, before_cases, left_cases, left_from}

@@ -1,5 +1,5 @@
 -- What is known while a history is gone through, and that it is what happens before.
-use Rattle.std.specs.Prelude.{◌≡◌, ℕ, suc, ◌<◌, ◌≤◌, ◌+◌, ◌==◌, ◌&&◌, not, max, nat_lt, if◌then◌else◌, ◌↔◌, Bool, List, [], Option, Some, None, unwrap_or}
+use Rattle.std.specs.Prelude.{◌≡◌, ℕ, suc, ◌<◌, ◌≤◌, ◌+◌, ◌==◌, max, if◌then◌else◌, ◌↔◌, List, [], Option, Some, None}
 use Rattle.std.specs.List.{All}
 use Rattle.std.specs.Ordering.{nat_cmp}
 use Rattle.std.specs.BTreeMap.{BTreeMap, get}

@@ -3,3 +3,7 @@ pub mod Heard
 pub mod Known
 pub mod Orders
 pub mod Mutexes
+pub mod Pairs
+pub mod Chains
+pub mod Kinds
+pub mod Groups

@@ -1,6 +1,5 @@
-use Rattle.std.proofs.Common.{◌≡◌, ◌==◌, ℕ, List, refl, if◌then◌else◌, arith}
-use Rattle.std.specs.List.{All}
-use Rattle.offline_audit.specs.Heard.{known_of, steps_of, steps_after}
+use Rattle.std.proofs.Common.{refl, arith}
+use Rattle.offline_audit.specs.Heard.{known_of, steps_of}
 use Rattle.offline_audit.proofs.Entries.{greatest-known, found_known, more_heard, own_passed}
 use Rattle.offline_audit.proofs.heard.hear_all.Goals as goal
 

@@ -1,6 +1,5 @@
-use Rattle.std.proofs.Common.{◌≡◌, ◌==◌, ℕ, if◌then◌else◌, List}
+use Rattle.std.proofs.Common.{◌≡◌, ◌==◌, ℕ, if◌then◌else◌}
 use Rattle.std.specs.List.{All}
-use Rattle.offline_audit.specs.declared.heard.Step.{Step}
 use Rattle.offline_audit.specs.Heard.{known_of, steps_after, steps_of}
 use Rattle.offline_audit.proofs.Entries.{greatest}
 use Rattle.offline_audit.proofs.heard.hear_all.Given as goal

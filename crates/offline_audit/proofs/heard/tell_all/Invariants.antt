@@ -1,5 +1,4 @@
-use Rattle.std.proofs.Common.{◌≡◌, ◌==◌, ℕ, if◌then◌else◌, max, List}
-use Rattle.offline_audit.specs.declared.heard.Step.{Step}
+use Rattle.std.proofs.Common.{◌≡◌, ◌==◌, ℕ, if◌then◌else◌, max}
 use Rattle.offline_audit.specs.Heard.{known_of, latest, steps_of}
 use Rattle.offline_audit.proofs.Entries.{greatest}
 use Rattle.offline_audit.proofs.heard.tell_all.Given as goal

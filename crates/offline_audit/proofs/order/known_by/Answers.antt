@@ -1,6 +1,5 @@
-use Rattle.std.proofs.Common.{◌-◌, leb, true, arith, rules, false}
+use Rattle.std.proofs.Common.{◌-◌, leb, arith, rules}
 use Rattle.std.proofs.lemmas.List.Sorted.{IsPartitionPoint-from_clause, IsPartitionedBy-leb}
-use Rattle.std.proofs.lemmas.Bool.{cases_eq}
 use Rattle.offline_audit.specs.declared.heard.Step.{Step}
 use Rattle.offline_audit.proofs.Entries.{nothing}
 use Rattle.offline_audit.proofs.OrderLaws.{none_by, last_by, rising_at}

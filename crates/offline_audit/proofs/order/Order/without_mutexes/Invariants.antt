@@ -1,4 +1,4 @@
-use Rattle.std.proofs.Common.{◌≡◌, ◌≤◌, ◌*◌, ℕ, take, length}
+use Rattle.std.proofs.Common.{◌≤◌, ◌*◌, take, length}
 use Rattle.run_laws.specs.Moments.{moments, items}
 use Rattle.offline_audit.specs.Known.{Stands}
 use Rattle.offline_audit.specs.Mutexes.{without_mutexes, AreAwaited}
