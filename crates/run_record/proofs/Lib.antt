@@ -1,3 +1,4 @@
 pub mod EntryOrder
 pub mod FlatLaws
 pub mod RoomLaws
+pub mod WalkLaws
