@@ -1,6 +1,6 @@
 -- Lists that rise strictly: there is one with given elements.
-use Rattle.std.proofs.Common.{◌≡◌, ◌⊎◌, ℕ, zero, suc, ◌<◌, List, [], ◌∷◌, length, refl, sym, ◌∙◌, ap, ap₂, subst, inl, inr, arith, Contains}
-use Rattle.std.specs.Prelude.{AllPairs, slice_index_or}
+use Rattle.std.proofs.Common.{◌≡◌, ◌⊎◌, zero, suc, List, [], ◌∷◌, refl, sym, ◌∙◌, ap₂, subst, inl, inr, arith, Contains}
+use Rattle.std.specs.Prelude.{AllPairs}
 
 in_cons : {X : Type 0} (x : X) (xs : List X) (z : X) → Contains (x ∷ xs) z → (x ≡ z) ⊎ Contains xs z
 in_cons x xs z (zero, l, e) = inl e
