@@ -1,7 +1,7 @@
 -- A history has one list of edges, and these have one list of cycles.
 use Rattle.std.proofs.Common.{◌≡◌, ◌⊎◌, ℕ, zero, suc, ◌<◌, Bool, true, false, cond, List, [], ◌∷◌, ◌++◌, length, map, get_or, eqb}
 use Rattle.std.proofs.Common.{refl, sym, ap, ap₂, ◌∙◌, subst, inl, inr, arith}
-use Rattle.std.specs.List.{Contains, flat_map}
+use Rattle.std.specs.List.{Contains, AllPairs, flat_map}
 use Rattle.std.specs.List.Sorted.{IsStrictlySortedBy}
 use Rattle.std.specs.Ordering.{nat_cmp, is_lt}
 use Rattle.std.specs.declared.cmp.Ordering.{Ordering}
@@ -11,59 +11,25 @@ use Rattle.std.proofs.lemmas.Bool.{cases_order, cases_lt, le-ltb, lt-ltb, eq-eqb
 use Rattle.std.proofs.lemmas.List.{length-map, get_or-map, get_or_default}
 use Rattle.std.proofs.lemmas.Map.Keys.{Less-from_sorted}
 use Rattle.run_laws.specs.Moments.{Moment}
+use Rattle.report_text.proofs.RisingLists.{same_rising}
 use Rattle.lock_order.specs.declared.edge.Edge.{Edge}
 use Rattle.lock_order.specs.declared.cycle.Cycle.{Cycle}
 use Rattle.lock_order.specs.Edges.{AreEdges, AreOrdered, pair_order, ends}
 use Rattle.lock_order.specs.Cycles.{Leads, IsCycleAt, AreCycles, addresses, start}
 use Rattle.lock_order.specs.Texts.{cycle_lines, count_line, IsLockText}
 
-in_cons : {X : Type 0} (x : X) (xs : List X) (z : X) → Contains (x ∷ xs) z → (x ≡ z) ⊎ Contains xs z
-in_cons x xs z (zero, l, e) = inl e
-in_cons x xs z (suc k, l, e) = inr (k, omega arith, e)
-
-at_head : {X : Type 0} (x : X) (xs : List X) → Contains (x ∷ xs) x
-at_head x xs = (0, omega arith, refl)
-
-behind_head : {X : Type 0} (x : X) (xs : List X) (z : X) → Contains xs z → Contains (x ∷ xs) z
-behind_head x xs z (k, l, e) = (suc k, omega arith, e)
-
-rest_sorted : {K : Type 0} (cmp : K → K → Ordering) (k : K) (ks : List K) → IsStrictlySortedBy cmp (k ∷ ks) → IsStrictlySortedBy cmp ks
-unfolding IsStrictlySortedBy
-rest_sorted cmp k ks s = s.1
-
 module _ {X K : Type 0} (cmp : K → K → Ordering) (key : X → K) (turn : (j k : K) → cmp j k ≡ Less → cmp k j ≡ Less → ⊥) where
-  first_less : (x : X) (xs : List X) (y : X) → IsStrictlySortedBy cmp (map key (x ∷ xs)) → Contains xs y → cmp (key x) (key y) ≡ Less
-  first_less x xs y s (k, l, e) =
-      let h = Less-from_sorted cmp (map key (x ∷ xs)) 0 (suc k) (key y) s (omega arith) (omega (arith, length-map xs key)) in
-      subst (λ (b : K). cmp (key x) b ≡ Less) (get_or-map key xs k y (key y) l ∙ ap key e) h
-
-  rest_among : (x : X) (xs : List X) (y : X) (ys : List X) → x ≡ y → IsStrictlySortedBy cmp (map key (x ∷ xs)) →
-      ((z : X) → Contains (x ∷ xs) z → Contains (y ∷ ys) z) → (z : X) → Contains xs z → Contains ys z
-  rest_among x xs y ys e s to z c = elim (in_cons y ys z (to z (behind_head x xs z c))) [
-    | inl same ↦
-        let less = first_less x xs z s c in
-        let itself : cmp (key x) (key x) ≡ Less = subst (λ (w : X). cmp (key x) (key w) ≡ Less) (sym (e ∙ same)) less in
-        absurd (turn (key x) (key x) itself itself)
-    | inr there ↦ there
-  ]
+  sorted_rise : (xs : List X) → IsStrictlySortedBy cmp (map key xs) → AllPairs (λ (x y : X). cmp (key x) (key y) ≡ Less) xs
+  sorted_rise xs s = λ i j d l m.
+      let h = Less-from_sorted cmp (map key xs) i j (key d) s l (omega (arith, length-map xs key)) in
+      subst (λ (b : K). cmp (key (get_or xs i d)) b ≡ Less) (get_or-map key xs j d (key d) m)
+      (subst (λ (a : K). cmp a (get_or (map key xs) j (key d)) ≡ Less) (get_or-map key xs i d (key d) (omega arith)) h)
 
   -- two lists that are sorted strictly and have the same elements are the same
   same_sorted : (xs ys : List X) → IsStrictlySortedBy cmp (map key xs) → IsStrictlySortedBy cmp (map key ys) → ((z : X) → Contains xs z → Contains ys z) →
       ((z : X) → Contains ys z → Contains xs z) → xs ≡ ys
-  same_sorted [] [] s t to back = refl
-  same_sorted [] (y ∷ ys) s t to back = absurd (omega (arith, (back y (at_head y ys)).1))
-  same_sorted (x ∷ xs) [] s t to back = absurd (omega (arith, (to x (at_head x xs)).1))
-  same_sorted (x ∷ xs) (y ∷ ys) s t to back =
-      let e : x ≡ y = elim (in_cons y ys x (to x (at_head x xs))) [
-        | inl same ↦ sym same
-        | inr later ↦ elim (in_cons x xs y (back y (at_head y ys))) [
-          | inl same ↦ same
-          | inr after ↦ absurd (turn (key x) (key y) (first_less x xs y s after) (first_less y ys x t later))
-        ]
-      ] in
-      let behind = same_sorted xs ys (rest_sorted cmp (key x) (map key xs) s) (rest_sorted cmp (key y) (map key ys) t)
-      (rest_among x xs y ys e s to) (rest_among y ys x xs (sym e) t back) in
-      ap₂ (λ (a : X) (rest : List X). a ∷ rest) e behind
+  same_sorted xs ys s t to back =
+      same_rising (λ (x y : X). cmp (key x) (key y) ≡ Less) (λ x y. turn (key x) (key y)) xs ys (sorted_rise xs s) (sorted_rise ys t) to back
 
 not_less : (b : Bool) → cond b Equal Greater ≡ Less → ⊥
 not_less true e = cc

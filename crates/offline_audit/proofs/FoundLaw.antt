@@ -8,7 +8,7 @@ use Rattle.run_laws.specs.Moments.{moments, items}
 use Rattle.run_laws.specs.HappensBefore.{HappensBefore}
 use Rattle.run_laws.specs.Accesses.{Access, Conflict, end_of}
 use Rattle.offline_audit.specs.declared.order.EventName.{EventName}
-use Rattle.offline_audit.specs.declared.pair.Pair.{Pair}
+use Rattle.report_text.specs.declared.pair.Pair.{Pair}
 use Rattle.offline_audit.specs.declared.access.Kind.{Kind}
 use Rattle.offline_audit.specs.declared.access.Made.{Made}
 use Rattle.offline_audit.specs.declared.group.Group.{Group}

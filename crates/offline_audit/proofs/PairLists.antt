@@ -7,7 +7,7 @@ use Rattle.std.proofs.lemmas.Bool.Decides.{nat_tests}
 use Rattle.std.proofs.lemmas.List.{get_or_default}
 use Rattle.std.proofs.lemmas.List.Sorted.{IsPermutation-insert, IsPermutation-sym, Contains-permutation}
 use Rattle.std.proofs.lemmas.List.Edits.{length-insert, get_or-insert_below, get_or-insert_at, get_or-insert_above}
-use Rattle.offline_audit.specs.declared.pair.Pair.{Pair}
+use Rattle.report_text.specs.declared.pair.Pair.{Pair}
 use Rattle.offline_audit.specs.Pairs.{IsLower, is_lower, AreRisingPairs, IsPlaceAmong}
 
 pub lower-true : (a b : Pair) → is_lower a b ≡ true → IsLower a b

@@ -7,7 +7,7 @@ use Rattle.std.proofs.lemmas.List.{get_or_default, length-map, length-drop, get_
 use Rattle.std.proofs.lemmas.List.Sorted.{IsNonDecreasingBy-drop}
 use Rattle.std.proofs.Math.ListN.{get_or-map}
 use Rattle.run_record.specs.declared.entry.Entry.{Entry}
-use Rattle.offline_audit.specs.declared.pair.Pair.{Pair}
+use Rattle.report_text.specs.declared.pair.Pair.{Pair}
 use Rattle.offline_audit.specs.declared.access.Kind.{Kind}
 use Rattle.offline_audit.specs.declared.group.Group.{Group}
 use Rattle.offline_audit.specs.Pairs.{pair_of}

@@ -2,7 +2,7 @@
 use Rattle.std.specs.Prelude.{◌≡◌, ℕ, ◌<◌, ◌⊎◌, ◌↔◌, List, [], ◌∷◌, ◌++◌, map, length, slice_index_or, Option, All, Contains}
 use Rattle.run_record.specs.declared.entry.Entry.{Entry}
 use Rattle.offline_audit.specs.declared.order.Order.{Order}
-use Rattle.offline_audit.specs.declared.pair.Pair.{Pair}
+use Rattle.report_text.specs.declared.pair.Pair.{Pair}
 use Rattle.offline_audit.specs.declared.access.Made.{Made}
 use Rattle.offline_audit.specs.declared.group.Group.{Group}
 use Rattle.offline_audit.specs.Orders.{IsOrderOf}

@@ -5,7 +5,7 @@ use Rattle.run_laws.specs.Moments.{moments, items}
 use Rattle.run_laws.specs.HappensBefore.{HappensBefore}
 use Rattle.run_laws.specs.Accesses.{Access, Conflict}
 use Rattle.run_laws.specs.Reports.{MakesAccess}
-use Rattle.offline_audit.specs.declared.pair.Pair.{Pair}
+use Rattle.report_text.specs.declared.pair.Pair.{Pair}
 
 -- The places p and q, p at most q, race in the history: two of its accesses have these places, conflict, and neither happens
 -- before the other. granule_of tells the granule that begins at an address.

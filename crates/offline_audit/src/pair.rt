@@ -1,19 +1,10 @@
 // Pairs of code places, in a list by rising low and then high.
 ghost use Rattle.std.specs.Prelude.{◌≡◌, ◌↔◌, ◌⊎◌, IsTrue, Contains, OnOk};
-ghost use Rattle.offline_audit.specs.declared.pair.Pair.{Pair};
+ghost use Rattle.report_text.specs.declared.pair.Pair.{Pair};
 ghost use Rattle.offline_audit.specs.Pairs.{AreRisingPairs, IsPlaceAmong, pair_of};
 
-use run_record::{Items, NoMemory};
-
-/// Two code places, the lower one first.
-#[derive(Clone, Copy, Debug, PartialEq, Eq)]
-pub struct Pair {
-    pub low: u64,
-    pub high: u64,
-}
-
-/// A list of pairs.
-pub type Pairs = Items<Pair>;
+use report_text::Pair;
+use run_record::NoMemory;
 
 /// The pair of two places.
 pub(crate) fn paired(first: u64, second: u64) -> Pair

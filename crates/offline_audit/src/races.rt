@@ -12,9 +12,10 @@ ghost use Rattle.offline_audit.specs.Groups.{addresses, AreChains, IsCompared, A
 use crate::access::{Kind, accesses};
 use crate::group::{Group, grouped};
 use crate::order::Order;
-use crate::pair::{Pair, Pairs, add, has, paired};
+use crate::pair::{add, has, paired};
 use crate::sweep::are_apart;
 use elf_image::Image;
+use report_text::{Pair, Pairs};
 use run_record::{Items, NoMemory, Record};
 use std::alloc::Global;
 

@@ -2,3 +2,4 @@ pub mod StackLaws
 pub mod FateLaws
 pub mod OfferLaws
 pub mod TextLaws
+pub mod RisingLists

@@ -10,6 +10,8 @@ use Rattle.run_record.specs.declared.report.KeptLock.{KeptLock}
 use Rattle.run_record.specs.declared.report.Report.{Report}
 use Rattle.run_record.specs.declared.report.Side.{Side}
 use Rattle.symbol_lines.specs.FrameTexts.{FrameText}
+use Rattle.report_text.specs.declared.pair.Pair.{Pair}
+use Rattle.report_text.specs.declared.pair.Hybrid.{Hybrid}
 
 -- `0x` and 16 hexadecimal digits
 abbrev pub address : ℕ → List ℕ
@@ -40,10 +42,13 @@ name_text name = if length name == 0 then codes "??" else name
 abbrev pub line_text : List ℕ → ℕ → List ℕ
 line_text file line = if length file == 0 then codes "??:0" else file ++ (codes ":" ++ decimal line)
 
+-- a code place: its function, file and line, and its address
+abbrev pub place_text : ℕ → FrameText → List ℕ
+place_text place f = name_text f.name ++ (codes " " ++ (line_text f.file f.line ++ (codes " (" ++ (address place ++ codes ")"))))
+
 -- the line of the frame of this number, counted from 0
 abbrev pub frame_line : ℕ → ℕ → FrameText → List ℕ
-frame_line number place f =
-    codes "    #" ++ (decimal number ++ (codes " " ++ (name_text f.name ++ (codes " " ++ (line_text f.file f.line ++ (codes " (" ++ (address place ++ codes ")\n")))))))
+frame_line number place f = codes "    #" ++ (decimal number ++ (codes " " ++ (place_text place f ++ codes "\n")))
 
 -- the lines of the frames from this number on
 abbrev pub frame_lines : (ℕ → FrameText) → ℕ → List ℕ → List ℕ
@@ -64,12 +69,24 @@ abbrev pub side_text : (ℕ → FrameText) → List ℕ → Side → List ℕ
 side_text frame_of kind s =
     kind ++ (codes " of size " ++ (decimal s.size ++ (codes " at " ++ (address s.addr ++ (codes " by " ++ (who s.tid ++ (locks_text (told_locks s.stack s.locks) ++ (codes ":\n" ++ stack_text frame_of s.stack))))))))
 
+-- a warning of two accesses, the first of them mine
+abbrev pub warning_text : (ℕ → FrameText) → List ℕ → Side → Side → List ℕ
+warning_text frame_of warning mine previous =
+    (codes "==================\nWARNING: " ++ (warning ++ codes "\n  ")) ++ (side_text frame_of (kind mine) mine
+    ++ (codes "  Previous " ++ (side_text frame_of (previous_kind previous) previous
+    ++ codes "==================\n")))
+
 -- a report
 abbrev pub report_text : (ℕ → FrameText) → Report → List ℕ
-report_text frame_of r =
-    codes "==================\nWARNING: ThreadSanitizer: data race\n  " ++ (side_text frame_of (kind r.mine) r.mine
-    ++ (codes "  Previous " ++ (side_text frame_of (previous_kind r.previous) r.previous
-    ++ codes "==================\n")))
+report_text frame_of r = warning_text frame_of (codes "ThreadSanitizer: data race") r.mine r.previous
+
+-- the line of two code places that race
+abbrev pub pair_bytes : (ℕ → FrameText) → Pair → List ℕ
+pair_bytes frame_of p = codes "race: " ++ (place_text p.low (frame_of p.low) ++ (codes " / " ++ (place_text p.high (frame_of p.high) ++ codes "\n")))
+
+-- two accesses at code places that only locks had kept apart
+abbrev pub hybrid_bytes : (ℕ → FrameText) → Hybrid → List ℕ
+hybrid_bytes frame_of h = warning_text frame_of (codes "tsanrun: unordered without locks") h.later h.earlier
 
 abbrev pub end_text : GuestEnd → List ℕ
 end_text (Exit n) = codes "exit " ++ decimal n

@@ -2,7 +2,10 @@
 ghost use Rattle.std.specs.Prelude.{◌≡◌};
 ghost use Rattle.report_text.specs.Offers.{offers};
 
-use crate::{Offered, Reporter, Suppressions, Unsuppressed, status_of, summary, text_of};
+use crate::{
+    Hybrid, Offered, Pair, Reporter, Suppressions, Unsuppressed, hybrid_text, pair_text, status_of,
+    summary, text_of,
+};
 use run_record::{
     Bytes, Entries, Finished, GuestEnd, KeptLock, LastState, Locks, NoMemory, Places, Record,
     Report, Reports, Side,
@@ -132,6 +135,57 @@ WARNING: ThreadSanitizer: data race
     #2 ?? b.c:0 (0x0000000000010060)
   Previous atomic write of size 8 at 0x0000000001000000 by main thread:
     [failed to restore the stack]
+==================
+";
+    assert!(rt; text.as_slice() == wanted.as_slice());
+    Ok(())
+}
+
+#[test]
+fn a_pair_by_its_places(rt: HostRuntime) -> Result<(), Fail> {
+    let alloc = rt.alloc();
+    let pair = Pair {
+        low: 0x1004c,
+        high: 0x10050,
+    };
+    let text = pair_text(alloc, &pair, &FewNames)?;
+    let wanted =
+        b"race: main src/a.c:18446744073709551615 (0x000000000001004c) / a ??:0 (0x0000000000010050)\n";
+    assert!(rt; text.as_slice() == wanted.as_slice());
+    let one = Pair {
+        low: 0xfedc_ba98_7654_3210,
+        high: 0xfedc_ba98_7654_3210,
+    };
+    let text = pair_text(alloc, &one, &Unnamed)?;
+    let wanted = b"race: ?? ??:0 (0xfedcba9876543210) / ?? ??:0 (0xfedcba9876543210)\n";
+    assert!(rt; text.as_slice() == wanted.as_slice());
+    Ok(())
+}
+
+#[test]
+fn a_pair_that_only_locks_had_ordered(rt: HostRuntime) -> Result<(), Fail> {
+    let alloc = rt.alloc();
+    let pair = Pair {
+        low: 0x10028,
+        high: 0x1004c,
+    };
+    let later = locked_read(alloc)?;
+    let mut earlier = write_of(alloc, 0, &[0x10028])?;
+    earlier.atomic = true;
+    let hybrid = Hybrid {
+        pair,
+        later,
+        earlier,
+    };
+    let text = hybrid_text(alloc, &hybrid, &FewNames)?;
+    let wanted = b"==================
+WARNING: tsanrun: unordered without locks
+  Read of size 65536 at 0xfedcba9876543210 by thread T1023 (mutexes: write 0x0000000001000008, read 0x0000000001000010):
+    #0 main src/a.c:18446744073709551615 (0x000000000001004c)
+    #1 a ??:0 (0x0000000000010050)
+    #2 ?? b.c:0 (0x0000000000010060)
+  Previous atomic write of size 8 at 0x0000000001000000 by main thread:
+    #0 main src/a.c:18446744073709551615 (0x0000000000010028)
 ==================
 ";
     assert!(rt; text.as_slice() == wanted.as_slice());

@@ -79,6 +79,18 @@ fn write_line(text: &mut String, file: FileText<'_>, line: u64) -> Result<(), Al
     }
 }
 
+/// A code place: its function, file and line, and its address.
+pub(crate) fn write_place(text: &mut String, place: u64, frame: Frame<'_>) -> Result<(), AllocError>
+    ensures { OnOk result (string_bytes text.new ≡ string_bytes text.old
+        ++ texts.place_text place (record { name = frame.entry.name.now; file = file_text frame.entry.file; line = frame.entry.line })) }
+{
+    let Frame { name, file, line } = frame;
+    let name = if name.is_empty() { "??" } else { name };
+    write!(text, "{name} ")?;
+    write_line(text, file, line)?;
+    write!(text, " (0x{place:016x})")
+}
+
 fn write_frame(
     text: &mut String,
     number: usize,
@@ -88,11 +100,9 @@ fn write_frame(
     ensures { OnOk result (string_bytes text.new ≡ string_bytes text.old
         ++ texts.frame_line number place (record { name = frame.entry.name.now; file = file_text frame.entry.file; line = frame.entry.line })) }
 {
-    let Frame { name, file, line } = frame;
-    let name = if name.is_empty() { "??" } else { name };
-    write!(text, "    #{number} {name} ")?;
-    write_line(text, file, line)?;
-    write!(text, " (0x{place:016x})\n")
+    write!(text, "    #{number} ")?;
+    write_place(text, place, frame)?;
+    text.push_str("\n")
 }
 
 fn write_stack<F: Frames>(
@@ -131,24 +141,36 @@ fn write_side<F: Frames>(
     write_stack(text, frames, &side.stack)
 }
 
+/// A warning of two accesses, whose lines each end with a newline.
+pub(crate) fn warning_text<F: Frames>(
+    alloc: Global,
+    warning: &str,
+    mine: &Side,
+    previous: &Side,
+    frames: &F,
+) -> Result<Vec<u8>, NoMemory>
+    ensures { IfOk result (λ text. text.items
+        ≡ texts.warning_text (F.frame_of frames.now) warning.now mine.now previous.now) }
+{
+    let mut text = format!(in alloc; "==================\nWARNING: {warning}\n  ")?;
+    write_side(&mut text, frames, kind_of(mine), mine)?;
+    text.push_str("  Previous ")?;
+    write_side(&mut text, frames, previous_kind_of(previous), previous)?;
+    text.push_str("==================\n")?;
+    Ok(text.into_bytes())
+}
+
 /// The text of a report, whose lines each end with a newline.
 pub fn text_of<F: Frames>(alloc: Global, report: &Report, frames: &F) -> Result<Vec<u8>, NoMemory>
     ensures { IfOk result (λ text. text.items ≡ texts.report_text (F.frame_of frames.now) report.now) }
 {
-    let mut text = String::from_str(
+    warning_text(
         alloc,
-        "==================\nWARNING: ThreadSanitizer: data race\n  ",
-    )?;
-    write_side(&mut text, frames, kind_of(&report.mine), &report.mine)?;
-    text.push_str("  Previous ")?;
-    write_side(
-        &mut text,
-        frames,
-        previous_kind_of(&report.previous),
+        "ThreadSanitizer: data race",
+        &report.mine,
         &report.previous,
-    )?;
-    text.push_str("==================\n")?;
-    Ok(text.into_bytes())
+        frames,
+    )
 }
 
 fn write_end(text: &mut String, end: GuestEnd) -> Result<(), AllocError>

@@ -1,5 +1,5 @@
 use Rattle.std.proofs.Common.{◌≡◌, List, ◌⊎◌, sym, subst, Contains}
-use Rattle.offline_audit.specs.declared.pair.Pair.{Pair}
+use Rattle.report_text.specs.declared.pair.Pair.{Pair}
 use Rattle.offline_audit.specs.Pairs.{AreRisingPairs, IsPlaceAmong}
 use Rattle.offline_audit.proofs.PairLists.{rising_more, inserted}
 use Rattle.offline_audit.proofs.pair.add.Goals as goal

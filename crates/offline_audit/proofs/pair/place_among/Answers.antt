@@ -1,6 +1,6 @@
 use Rattle.std.proofs.Common.{rules}
 use Rattle.std.proofs.lemmas.List.Sorted.{IsPartitionPoint-from_clause}
-use Rattle.offline_audit.specs.declared.pair.Pair.{Pair}
+use Rattle.report_text.specs.declared.pair.Pair.{Pair}
 use Rattle.offline_audit.specs.Pairs.{is_lower}
 use Rattle.offline_audit.proofs.PairLists.{parted, place_from}
 use Rattle.offline_audit.proofs.pair.place_among.Goals as goal

@@ -1,7 +1,7 @@
 use Rattle.std.proofs.Common.{◌≡◌, ◌⊎◌, ◌↔◌, Contains}
 use Rattle.std.proofs.lemmas.Result.{on_ok_weaker}
 use Rattle.elf_image.specs.File.{granule_of}
-use Rattle.offline_audit.specs.declared.pair.Pair.{Pair}
+use Rattle.report_text.specs.declared.pair.Pair.{Pair}
 use Rattle.offline_audit.specs.Pairs.{pair_of}
 use Rattle.offline_audit.proofs.RaceLaw.{one_more}
 use Rattle.offline_audit.proofs.races.compare.Goals as goal

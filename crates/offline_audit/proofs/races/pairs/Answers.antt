@@ -1,6 +1,6 @@
 use Rattle.std.proofs.Common.{◌↔◌, List, Contains, sym, subst}
 use Rattle.elf_image.specs.File.{granule_of}
-use Rattle.offline_audit.specs.declared.pair.Pair.{Pair}
+use Rattle.report_text.specs.declared.pair.Pair.{Pair}
 use Rattle.offline_audit.specs.Pairs.{IsRacingPair}
 use Rattle.offline_audit.proofs.FoundLaw.{exact}
 use Rattle.offline_audit.proofs.races.pairs.Goals as goal
