@@ -4,3 +4,5 @@ pub mod RoomLaws
 pub mod WalkLaws
 pub mod MarkLaws
 pub mod CutLaws
+pub mod AppendLaws
+pub mod RestLaws

@@ -21,7 +21,7 @@ pub(crate) fn count_before<T>(marks: &[Mark<T>], n: usize) -> usize
 }
 
 /// How many events and how many checks the rows have.
-fn sizes(rows: &[Row]) -> (usize, usize)
+pub(crate) fn sizes(rows: &[Row]) -> (usize, usize)
     requires events { event_count rows.now < 2 ^ 64 }
     requires checks { check_count rows.now < 2 ^ 64 }
     ensures events { result.0 ≡ event_count rows.now }

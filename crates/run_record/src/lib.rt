@@ -20,6 +20,7 @@ mod logs;
 mod no_memory;
 mod plan;
 mod report;
+mod rest;
 mod walk;
 
 pub use entries::Entries;
