@@ -6,3 +6,6 @@ pub mod MarkLaws
 pub mod CutLaws
 pub mod AppendLaws
 pub mod RestLaws
+pub mod MergeLaws
+pub mod MergeSteps
+pub mod MergeRests

@@ -37,7 +37,7 @@ pub(crate) fn sizes(rows: &[Row]) -> (usize, usize)
 }
 
 /// Drops the last entries, from that number on.
-fn cut(flat: &mut Flat, n: usize)
+pub(crate) fn cut(flat: &mut Flat, n: usize)
     requires whole { IsWhole flat.old }
     requires within { n ≤ length flat.old.rows.items }
     ensures whole { IsWhole flat.new }

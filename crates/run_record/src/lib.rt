@@ -17,6 +17,7 @@ mod flat;
 mod items;
 mod limits;
 mod logs;
+mod merged;
 mod no_memory;
 mod plan;
 mod report;

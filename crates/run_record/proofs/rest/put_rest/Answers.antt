@@ -1,4 +1,4 @@
-use Rattle.std.proofs.Common.{◌≡◌, ◌≤◌, ◌<◌, ◌-◌, ◌+◌, ◌++◌, length, ℕ, List, ap, ap₂, ◌∙◌, arith}
+use Rattle.std.proofs.Common.{◌≡◌, ◌++◌, length, ℕ, List, ap, ap₂, ◌∙◌, arith}
 use Rattle.run_record.specs.declared.entry.DeskNote.{DeskNote}
 use Rattle.run_record.specs.declared.event.Event.{Event}
 use Rattle.run_record.specs.declared.flat.Row.{Row}
@@ -20,8 +20,10 @@ put_marks-requires-clause-fits c =
     let r = c.args.rest.now in
     let bounds = used_bounds r.entry (length r.rows.now) r.notes.now c.requires.rest.notes_are in
     let f = c.reserve.new.flat in
-    λ k d within. ((bounds k d within).0,
-    omega (arith, (bounds k d within).0, (bounds k d within).1, c.len-entries.ensures, c.in_ok-reserve.ensures.room.rows, f.rows.small))
+    λ k d within. (
+      (bounds k d within).0,
+      omega (arith, (bounds k d within).0, (bounds k d within).1, c.len-entries.ensures, c.in_ok-reserve.ensures.room.rows, f.rows.small),
+    )
 
 pub put_marks-requires-2-clause-room : goal.put_marks-requires-2-clause-room
 put_marks-requires-2-clause-room c =
@@ -33,8 +35,10 @@ put_marks-requires-2-clause-fits c =
     let r = c.args.rest.now in
     let bounds = used_bounds r.check (length r.checks.now) r.words.now c.requires.rest.words_are in
     let f = c.reserve.new.flat in
-    λ k d within. ((bounds k d within).0,
-    omega (arith, (bounds k d within).0, (bounds k d within).1, c.len-checks.ensures, c.in_ok-reserve.ensures.room.checks, f.checks.small))
+    λ k d within. (
+      (bounds k d within).0,
+      omega (arith, (bounds k d within).0, (bounds k d within).1, c.len-checks.ensures, c.in_ok-reserve.ensures.room.checks, f.checks.small),
+    )
 
 behind : (c : After-put_all-3) → IsBehind c.args.flat.now.rows.items c.put_all.new.items.items c.args.flat.now.notes.items c.put_marks.new.marks.items
     c.args.flat.now.events.items c.put_all-2.new.items.items c.args.flat.now.checks.items c.put_all-3.new.items.items

@@ -1,5 +1,4 @@
-use Rattle.std.proofs.Common.{◌≡◌, ◌≤◌, ◌<◌, ◌-◌, ◌+◌, take, drop, length, ℕ, List, sym, ap, ◌∙◌, arith}
-use Rattle.run_record.specs.declared.flat.Row.{Row}
+use Rattle.std.proofs.Common.{◌+◌, ap, ◌∙◌, arith}
 use Rattle.run_record.specs.declared.rest.Rest.{Rest}
 use Rattle.run_record.specs.Flat.{event_count, check_count}
 use Rattle.run_record.proofs.CutLaws.{events_split, checks_split}
