@@ -1,6 +1,6 @@
 -- One step of the merge: the chosen rest's first entries are appended.
 use Rattle.std.proofs.Common.{◌≡◌, ℕ, zero, suc, ◌<◌, ◌≤◌, List, [], ◌∷◌, ◌++◌, length, take, drop, get_or, set, map, Option, Some, None, refl, sym, ◌∙◌, ap, subst, inl, inr, arith, append_assoc, append-nil}
-use Rattle.std.specs.Prelude.{All, Result, Ok, Err, OnErr}
+use Rattle.std.specs.Prelude.{slice_get, option_map, All, Result, Ok, Err, OnErr}
 use Rattle.std.proofs.Math.Seq.{take-append_seam}
 use Rattle.std.proofs.lemmas.List.{length-map, get_or-map, map-set, take-append-drop, length-take}
 use Rattle.std.proofs.lemmas.List.Elements.{All-set}
@@ -15,11 +15,11 @@ use Rattle.run_record.specs.declared.flat.Mark.{Mark}
 use Rattle.run_record.specs.declared.rest.Rest.{Rest}
 use Rattle.run_record.specs.declared.merged.Choice.{Choice}
 use Rattle.run_record.specs.Marks.{rest_at}
-use Rattle.run_record.specs.Flat.{checks_of, entries_of}
+use Rattle.run_record.specs.Flat.{checks_of, entries_of, head_of}
 use Rattle.run_record.specs.Order.{AreOrdered, AreDistinct, AppendsMerged, entries_in}
 use Rattle.run_record.specs.Rest.{rest_entries, IsRest}
 use Rattle.run_record.specs.Merging.{AreRestsOf, IsUpto, IsUptoLimit, IsLimitOf, BeginWith, IsChosen, IsChosenBelow}
-use Rattle.run_record.proofs.MergeSteps.{head_of, AreSorted, IsMerging, step, fewer, all_done}
+use Rattle.run_record.proofs.MergeSteps.{AreSorted, IsMerging, step, fewer, all_done}
 
 -- ---- rows and their entries
 
@@ -35,6 +35,13 @@ heads_hold P (suc count) n (r ∷ rows) notes es cs h (suc k) d l =
 pub as_many_entries : (n : ℕ) (rows : List Row) (notes : List (Mark DeskNote)) (es : List Event) (cs : List Check) → length (entries_of n rows notes es cs) ≡ length rows
 as_many_entries n [] notes es cs = refl
 as_many_entries n (r ∷ rows) notes es cs = ap suc (as_many_entries (suc n) rows (rest_at n notes) (drop r.events es) (drop r.checks cs))
+
+-- the head of a row is that of its entry
+pub head_at : (k n : ℕ) (rows : List Row) (notes : List (Mark DeskNote)) (es : List Event) (cs : List Check) →
+    option_map (λ (r : Row). r.head) (slice_get rows k) ≡ option_map head_of (slice_get (entries_of n rows notes es cs) k)
+head_at k n [] notes es cs = refl
+head_at zero n (r ∷ rows) notes es cs = refl
+head_at (suc k) n (r ∷ rows) notes es cs = head_at k (suc n) rows (rest_at n notes) (drop r.events es) (drop r.checks cs)
 
 upto_trans : (g h k : Head) → IsUpto g h → IsUpto h k → IsUpto g k
 upto_trans g h k first second = elim first [

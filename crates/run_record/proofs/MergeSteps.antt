@@ -8,6 +8,7 @@ use Rattle.std.proofs.lemmas.List.Kept.{AllPairs-cons}
 use Rattle.std.proofs.lemmas.List.Sorted.{IsPermutation-trans, IsPermutation-append_left, IsPermutation-append_right, IsPermutation-append_comm, All-permutation}
 use Rattle.run_record.specs.declared.entry.Entry.{Entry}
 use Rattle.run_record.specs.declared.flat.Head.{Head}
+use Rattle.run_record.specs.Flat.{head_of}
 use Rattle.run_record.specs.Order.{AreOrdered, AreDistinct, entries_in}
 use Rattle.run_record.specs.Merging.{IsUpto}
 use Rattle.run_record.proofs.EntryOrder.{AreOrdered-from_upto}
@@ -55,9 +56,6 @@ all_flat P (es ∷ lists) h =
     All-append P es (entries_in lists) (h 0 es (omega arith)) (all_flat P lists (All-tail (λ (xs : List Entry). All P xs) es lists h))
 
 -- ---- what is merged, and what is left
-
-abbrev pub head_of : Entry → Head
-head_of e = record { round = e.round; era = e.era; stamp = e.stamp; tid = e.tid; steps = e.steps }
 
 -- the first entry isn't after the second
 abbrev pub UptoEntry : Entry → Entry → Type 0
