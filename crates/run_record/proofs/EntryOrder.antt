@@ -1,6 +1,6 @@
 -- Why a sort by stamp and thread orders entries that are distinct.
-use Rattle.std.proofs.Common.{◌≡◌, ◌<◌, ℕ, Bool, false, ◌==◌, ◌&&◌, Ordering, List, [], ◌∷◌, ◌++◌, append-nil, sym, ◌∙◌, length, ◌⊎◌, inl, inr, arith}
-use Rattle.std.specs.Prelude.{IsPermutation}
+use Rattle.std.proofs.Common.{◌≡◌, ◌<◌, ◌≤◌, ℕ, Bool, false, ◌==◌, ◌&&◌, Ordering, List, [], ◌∷◌, ◌++◌, append-nil, sym, ◌∙◌, length, ◌⊎◌, inl, inr, arith}
+use Rattle.std.specs.Prelude.{IsPermutation, AllPairs}
 use Rattle.std.specs.Ordering.{nat_cmp, is_lt, ordering_then}
 use Rattle.std.specs.List.Sorted.{IsSortedByKey}
 use Rattle.std.proofs.lemmas.Bool.{cases_order}
@@ -44,6 +44,18 @@ AreOrdered-from_sort logged sorted distinct moved ascends =
     let order = ranks_by (then_total (on_total (λ (x : ℕ × ℕ). x.0) nat_cmp_total) (on_total (λ (x : ℕ × ℕ). x.1) nat_cmp_total))
     (λ (e : Entry). (e.stamp, e.tid)) in
     λ i j d p q. precedes _ _ _ _ (apart_from_distinct same_place sorted i j d still p q) (sorted_far _ order sorted ascends i j d (omega arith) q)
+
+before_or_same : (s t u v : ℕ) → ((s == t) && (u == v)) ≡ false → (s < t) ⊎ ((s ≡ t) × (u ≤ v)) → (s < t) ⊎ ((s ≡ t) × (u < v))
+before_or_same s t u v apart (inl l) = inl l
+before_or_same s t u v apart (inr e) = inr (e.0, let same = e.0 in let upto = e.1 in grind (arith, nat_tests))
+
+-- entries none of which is after a later one are ordered, where they are distinct
+pub AreOrdered-from_upto : (logged sorted : List Entry) → AreDistinct logged → IsPermutation logged sorted →
+    AllPairs (λ d e. (d.stamp < e.stamp) ⊎ ((d.stamp ≡ e.stamp) × (d.tid ≤ e.tid))) sorted → AreOrdered sorted
+AreOrdered-from_upto logged sorted distinct moved upto =
+    let apart = IsDistinct-from_apart same_place logged (λ i j d p q. differ _ _ _ _ (distinct i j d p q)) in
+    let still = IsDistinct-IsPermutation same_place (λ x y. flips x.stamp y.stamp x.tid y.tid) logged sorted moved apart in
+    λ i j d p q. before_or_same _ _ _ _ (apart_from_distinct same_place sorted i j d still p q) (upto i j d p q)
 
 -- where nothing is left, what is joined is all
 pub all_joined : (done all : List Entry) (left : List (List Entry)) → done ++ entries_in left ≡ all → length left ≡ 0 → done ≡ all

@@ -4,3 +4,8 @@ pub mod RoomLaws
 pub mod WalkLaws
 pub mod MarkLaws
 pub mod CutLaws
+pub mod AppendLaws
+pub mod RestLaws
+pub mod MergeLaws
+pub mod MergeSteps
+pub mod MergeRests

@@ -34,6 +34,10 @@ entry_of h note events checks = record {
   checks = checks;
 }
 
+-- what an entry has but for its note, its events and its checks
+abbrev pub head_of : Entry → Head
+head_of e = record { round = e.round; era = e.era; stamp = e.stamp; tid = e.tid; steps = e.steps }
+
 -- the entries from that number on, whose events and checks follow one another
 abbrev pub entries_of : ℕ → List Row → List (Mark DeskNote) → List Event → List Check → List Entry
 entries_of n [] notes events checks = []

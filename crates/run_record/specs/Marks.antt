@@ -1,5 +1,5 @@
 -- What few of many things have.
-use Rattle.std.specs.Prelude.{◌≡◌, ℕ, zero, suc, ◌==◌, nat_lt, if◌then◌else◌, List, [], ◌∷◌, Option, Some, None}
+use Rattle.std.specs.Prelude.{◌≡◌, ℕ, zero, suc, ◌+◌, ◌-◌, ◌==◌, nat_lt, if◌then◌else◌, List, [], ◌∷◌, map, Option, Some, None}
 use Rattle.run_record.specs.declared.entry.DeskNote.{DeskNote}
 use Rattle.run_record.specs.declared.entry.DeskNote.TheVariants.{Nothing, Attach, Leave}
 use Rattle.run_record.specs.declared.flat.Mark.{Mark}
@@ -40,3 +40,7 @@ marks_before n (x ∷ marks) = if nat_lt x.at n then x ∷ marks_before n marks 
 abbrev pub marks_from : {T : Type 0} → ℕ → List (Mark T) → List (Mark T)
 marks_from n [] = []
 marks_from n (x ∷ marks) = if nat_lt x.at n then marks_from n marks else x ∷ marks
+
+-- the marks with other numbers, of which `from` becomes `to`
+abbrev pub renumbered : {T : Type 0} → ℕ → ℕ → List (Mark T) → List (Mark T)
+renumbered {T} from to marks = map (λ (x : Mark T). mark (to + (x.at - from)) x.value) marks

@@ -1,5 +1,5 @@
 -- The order of a history's entries.
-use Rattle.std.specs.Prelude.{◌≡◌, ◌<◌, ◌⊎◌, List, AllPairs, flat_map}
+use Rattle.std.specs.Prelude.{◌≡◌, ◌<◌, ◌⊎◌, ◌++◌, List, AllPairs, flat_map, IsPermutation}
 use Rattle.run_record.specs.declared.entry.Entry.{Entry}
 
 -- d stands before e: it has the lesser stamp, or the same stamp and the lesser thread
@@ -17,3 +17,10 @@ AreDistinct entries = AllPairs (λ d e. ¬ ((d.stamp ≡ e.stamp) × (d.tid ≡ 
 -- the entries of all logs, log after log
 abbrev pub entries_in : List (List Entry) → List Entry
 entries_in logs = flat_map (λ (log : List Entry). log) logs
+
+-- Behind the old entries the new ones have those of all logs, in their order.
+pub record AppendsMerged (old new : List Entry) (logs : List (List Entry)) : Type 0 where
+  pub merged : List Entry
+  pub all : new ≡ old ++ merged
+  pub same : IsPermutation (entries_in logs) merged
+  pub ordered : AreOrdered merged

@@ -21,7 +21,7 @@ pub(crate) fn count_before<T>(marks: &[Mark<T>], n: usize) -> usize
 }
 
 /// How many events and how many checks the rows have.
-fn sizes(rows: &[Row]) -> (usize, usize)
+pub(crate) fn sizes(rows: &[Row]) -> (usize, usize)
     requires events { event_count rows.now < 2 ^ 64 }
     requires checks { check_count rows.now < 2 ^ 64 }
     ensures events { result.0 ≡ event_count rows.now }
@@ -37,7 +37,7 @@ fn sizes(rows: &[Row]) -> (usize, usize)
 }
 
 /// Drops the last entries, from that number on.
-fn cut(flat: &mut Flat, n: usize)
+pub(crate) fn cut(flat: &mut Flat, n: usize)
     requires whole { IsWhole flat.old }
     requires within { n ≤ length flat.old.rows.items }
     ensures whole { IsWhole flat.new }

@@ -1,6 +1,6 @@
 // The entries of a history.
-ghost use Rattle.std.specs.Prelude.{◌≡◌, ◌<◌, ◌≤◌, ◌+◌, ◌^◌, ◌∷◌, ◌++◌, [], ℕ, length, OnOk, OnErr};
-ghost use Rattle.run_record.specs.Flat.{entry_of, flat_entries, IsWhole, HasRoom};
+ghost use Rattle.std.specs.Prelude.{◌≡◌, ◌<◌, ◌≤◌, ◌+◌, ◌^◌, ◌∷◌, ◌++◌, [], ℕ, length, slice_get, option_map, OnOk, OnErr};
+ghost use Rattle.run_record.specs.Flat.{entry_of, head_of, flat_entries, IsWhole, HasRoom};
 ghost use Rattle.run_record.specs.Between.{attach_entries, leave_entries, entries_between};
 
 use crate::flat::{Flat, put_entry, reserve};
@@ -97,6 +97,16 @@ impl Entries {
         ensures { result ≡ length self.now }
     {
         self.flat.rows.len()
+    }
+
+    /// What the entry of that number has but for its note, its events and its checks, if there is one.
+    pub fn head(&self, n: usize) -> Option<Head>
+        ensures { result ≡ option_map head_of (slice_get self.now n) }
+    {
+        match self.flat.rows.get(n) {
+            Some(row) => Some(row.head),
+            None => None,
+        }
     }
 
     /// One more entry. After an error nothing has changed. There is no memory for 2^32 events or

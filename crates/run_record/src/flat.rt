@@ -56,7 +56,7 @@ pub(crate) struct Flat {
 }
 
 /// Appends an element, for which there is room.
-fn put<T: Drop>(items: &mut Vec<T>, item: T)
+pub(crate) fn put<T: Drop>(items: &mut Vec<T>, item: T)
     requires { vec_len items.old < vec_capacity items.old }
     ensures items { items.new.items ≡ items.old.items ++ item ∷ [] }
     ensures len { vec_len items.new ≡ vec_len items.old + 1 }
@@ -65,14 +65,14 @@ fn put<T: Drop>(items: &mut Vec<T>, item: T)
     items.push(item).unwrap();
 }
 
-/// Appends events, for which there is room.
-fn put_all(events: &mut Vec<Event>, more: &[Event])
-    requires { vec_len events.old + length more.now ≤ vec_capacity events.old }
-    ensures items { events.new.items ≡ events.old.items ++ more.now }
-    ensures len { vec_len events.new ≡ vec_len events.old + length more.now }
-    ensures capacity { vec_capacity events.old ≤ vec_capacity events.new }
+/// Appends elements, for which there is room.
+pub(crate) fn put_all<T: Copy>(items: &mut Vec<T>, more: &[T])
+    requires { vec_len items.old + length more.now ≤ vec_capacity items.old }
+    ensures items { items.new.items ≡ items.old.items ++ more.now }
+    ensures len { vec_len items.new ≡ vec_len items.old + length more.now }
+    ensures capacity { vec_capacity items.old ≤ vec_capacity items.new }
 {
-    events.extend_from_slice(more).unwrap();
+    items.extend_from_slice(more).unwrap();
 }
 
 /// Keeps the note of the entry of that number, if it has one.

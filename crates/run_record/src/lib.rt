@@ -17,9 +17,11 @@ mod flat;
 mod items;
 mod limits;
 mod logs;
+mod merged;
 mod no_memory;
 mod plan;
 mod report;
+mod rest;
 mod walk;
 
 pub use entries::Entries;
