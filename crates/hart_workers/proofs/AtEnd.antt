@@ -1,6 +1,6 @@
 -- Behind a round of hired workers the run is at its end, whatever turn of the desk comes.
 use Rattle.std.proofs.Common.{◌≡◌, ℕ, Bool, List, [], ◌++◌, length, refl, sym, ap, subst, ◌∙◌}
-use Rattle.std.specs.Prelude.{IsPermutation, map, is_some, None, Option}
+use Rattle.std.specs.Prelude.{All, IsPermutation, map, is_some, None, Option}
 use Rattle.run_record.specs.declared.entry.Entry.{Entry}
 use Rattle.run_record.specs.declared.limits.Limits.{Limits}
 use Rattle.run_record.specs.Order.{AreOrdered, AreDistinct, entries_in}
@@ -17,16 +17,15 @@ use Rattle.hart_turns.specs.declared.slots.ThreadState.{ThreadState}
 use Rattle.part_workers.specs.declared.part.Post.{Post}
 use Rattle.part_workers.specs.declared.worker.HartWorker.{HartWorker}
 use Rattle.part_workers.specs.Works.{Works}
-use Rattle.made_rounds.proofs.Distinct.{distinct}
+use Rattle.made_rounds.proofs.Distinct.{all_ordered, distinct}
 use Rattle.hart_workers.specs.declared.crew.Crew.{Crew}
 use Rattle.hart_workers.specs.declared.crew.Due.{Due}
 use Rattle.hart_workers.specs.Crews.{IsHired, Hires, TakesBack, logs_from}
 use Rattle.hart_workers.specs.Parts.{IsDueAt, ArePartsOf}
 use Rattle.hart_workers.proofs.Idle.{idle_behind, traces_behind}
 use Rattle.hart_workers.proofs.MadeParts.{made_parts}
-use Rattle.hart_workers.specs.declared.making.RoundMade.{RoundMade}
 use Rattle.hart_workers.specs.declared.rounds.Rounds.{Rounds}
-use Rattle.hart_workers.specs.Standing.{SoFar, stand_in, StandsAs, IsBetween, Merged, round_with, IsAtEnd}
+use Rattle.hart_workers.specs.Standing.{SoFar, stand_in, StandsAs, IsBetween, Merged, round_with, MergedRound, IsMergedEnd}
 use Rattle.hart_workers.proofs.Mapped.{each_moved, any_alike, mapped_with}
 use Rattle.hart_workers.proofs.OneMore.{ArePartsMerged, round_made, round_logs}
 
@@ -117,14 +116,26 @@ module _ {G : Type 0} (file : List ℕ) (limits : Limits) where
       (distinct file limits lay x.first h.known.set_up (stand_in limits x).era parts.0 made.are_parts
       (subst AreApart (sym threads) h.reading.read.apart))
 
+  -- the entries of each are in order
+  pub logs_ordered : (meets : Option (List ℕ) → Option (List ℕ) → Bool) (lay : Layout) (kept : Kept) (r : Rounds) (crew : Crew)
+      (table : SharedTable) (u v w : View) (between : List (Option ThreadState)) (before after : List (HartWorker G)) (logs : List (List Entry))
+      (pending : List Keyed) (starved : Bool) → IsBetween meets file limits lay u r kept →
+      AreBack r crew table v w between before after logs pending starved → All AreOrdered logs
+  logs_ordered meets lay kept r crew table u v w between before after logs pending starved h b =
+      let x = h.so_far in
+      let parts = parts_of meets lay kept r crew table u v w between before after logs pending starved h b in
+      let made = parts.1 in
+      subst (All AreOrdered) (sym (b.back.logs_are ∙ sym made.entries))
+      (all_ordered file limits lay x.first h.known.set_up (stand_in limits x).era parts.0 made.are_parts)
+
   -- What is known behind the workers' part of a round, where the run was between two rounds.
   pub at_end : (meets : Option (List ℕ) → Option (List ℕ) → Bool) (lay : Layout) (kept : Kept) (r : Rounds) (crew : Crew) (table : SharedTable)
       (v w : View) (between : List (Option ThreadState)) (before after : List (HartWorker G)) (logs : List (List Entry)) (pending : List Keyed)
-      (made : RoundMade) → IsBetween meets file limits lay v r kept → r.reading.end ≡ None →
+      (made : MergedRound) → IsBetween meets file limits lay v r kept → r.reading.end ≡ None →
       AreBack r crew table v w between before after logs pending made.starved →
       w.log ≡ v.log ++ (splits_from (length v.logs) (length before) ++ joins_from (length v.logs) (length before)) →
       AreSorted pending made.pending → IsPermutation (entries_in logs) made.entries → AreOrdered made.entries →
-      IsAtEnd meets file limits lay w (record r { crew = crew }) made kept
+      IsMergedEnd meets file limits lay w (record r { crew = crew }) made kept
   at_end meets lay kept r crew table v w between before after logs pending made h due b own sorted moved ordered =
       let x = h.so_far in
       let s = stand_in limits x in

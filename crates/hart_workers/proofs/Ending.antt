@@ -30,13 +30,12 @@ use Rattle.hart_workers.specs.Tells.{TellsReports}
 use Rattle.hart_turns.specs.declared.slots.ThreadState.{ThreadState}
 use Rattle.hart_workers.specs.Crews.{IsIdle}
 use Rattle.hart_workers.specs.declared.rounds.Rounds.{Rounds}
-use Rattle.hart_workers.specs.declared.making.RoundMade.{RoundMade}
 use Rattle.hart_workers.specs.Reading.{HasRead}
-use Rattle.hart_workers.specs.Standing.{SoFar, stand_in, StandsAs, IsKnown, IsBetween, round_with, IsOneMore, IsAtEnd}
+use Rattle.hart_workers.specs.Standing.{SoFar, stand_in, StandsAs, IsKnown, IsBetween, round_with, IsOneMore, MergedRound, IsMergedEnd}
 use Rattle.hart_workers.specs.Closing.{CanTellBy, EndsIn, EndsInTurn, GoesOn}
 
-module _ (meets : Option (List ℕ) → Option (List ℕ) → Bool) (file : List ℕ) (limits : Limits) (me within : Mine) (r : Rounds) (made : RoundMade)
-    (kept : Kept) (at_end : IsAtEnd meets file limits me.0.layout me.0 r made kept) (opens : me.0.number ≡ 0) (found : Object)
+module _ (meets : Option (List ℕ) → Option (List ℕ) → Bool) (file : List ℕ) (limits : Limits) (me within : Mine) (r : Rounds) (made : MergedRound)
+    (kept : Kept) (at_end : IsMergedEnd meets file limits me.0.layout me.0 r made kept) (opens : me.0.number ≡ 0) (found : Object)
     (turn : Took desk me found within) where
   abbrev x : SoFar
   x = at_end.so_far
@@ -186,7 +185,7 @@ module _ (meets : Option (List ℕ) → Option (List ℕ) → Bool) (file : List
 
 -- The seat's turn ended the round: all is as it is between rounds again.
 pub closed : (meets : Option (List ℕ) → Option (List ℕ) → Bool) (file : List ℕ) (limits : Limits) (lay : Layout) (me me2 : Mine) (r q : Rounds)
-    (made : RoundMade) (before after : Kept) → me.0.layout ≡ lay → me.0.number ≡ 0 → IsAtEnd meets file limits lay me.0 r made before →
+    (made : MergedRound) (before after : Kept) → me.0.layout ≡ lay → me.0.number ≡ 0 → IsMergedEnd meets file limits lay me.0 r made before →
     GoesOn made.entries made.starved r q →
     ((t : Stand) → IsIdle limits t r.crew.states.items → IsIdle limits t q.crew.states.items) →
     EndsInTurn meets file limits r.crew.states.items (awaited_in made.pending) made.starved q.remaining before after me me2 q.reading →
@@ -194,8 +193,8 @@ pub closed : (meets : Option (List ℕ) → Option (List ℕ) → Bool) (file : 
 closed meets file limits lay me me2 r q made before after laid opens at_end onward same t =
     subst (λ (l : Layout). IsBetween meets file limits l me2.0 q after) laid (over t.found t.left t.took t.gave t.ended)
   where
-    at : IsAtEnd meets file limits me.0.layout me.0 r made before
-    at = subst (λ (l : Layout). IsAtEnd meets file limits l me.0 r made before) (sym laid) at_end
+    at : IsMergedEnd meets file limits me.0.layout me.0 r made before
+    at = subst (λ (l : Layout). IsMergedEnd meets file limits l me.0 r made before) (sym laid) at_end
 
     over : (found left : Object) → Took desk me found t.within → Gave t.within left me2 →
         EndsIn meets file limits r.crew.states.items (awaited_in made.pending) made.starved q.remaining before after found left q.reading →
@@ -207,8 +206,8 @@ closed meets file limits lay me me2 r q made before after laid opens at_end onwa
 
 -- whatever is found at the desk, each access that waits can be told by it
 pub can_be_told : (meets : Option (List ℕ) → Option (List ℕ) → Bool) (file : List ℕ) (limits : Limits) (lay : Layout) (me within : Mine) (r : Rounds)
-    (made : RoundMade) (kept : Kept) (found : Object) → me.0.layout ≡ lay → me.0.number ≡ 0 → IsAtEnd meets file limits lay me.0 r made kept →
+    (made : MergedRound) (kept : Kept) (found : Object) → me.0.layout ≡ lay → me.0.number ≡ 0 → IsMergedEnd meets file limits lay me.0 r made kept →
     Took desk me found within → CanTellBy file r.crew.states.items found (awaited_in made.pending)
 can_be_told meets file limits lay me within r made kept found laid opens at_end turn =
-    can_tell meets file limits me within r made kept (subst (λ (l : Layout). IsAtEnd meets file limits l me.0 r made kept) (sym laid) at_end) opens found
+    can_tell meets file limits me within r made kept (subst (λ (l : Layout). IsMergedEnd meets file limits l me.0 r made kept) (sym laid) at_end) opens found
     turn

@@ -1,13 +1,11 @@
 -- Lists with one element more.
-use Rattle.std.proofs.Common.{◌≡◌, ◌≢◌, ◌<◌, ◌+◌, max, ℕ, List, [], ◌∷◌, ◌++◌, length, take, get_or, inl, inr, refl, sym, ap, ◌∙◌, arith}
-use Rattle.std.proofs.lemmas.List.{take_more}
-use Rattle.std.specs.Prelude.{◌⊎◌}
+use Rattle.std.proofs.Common.{◌≡◌, ◌≢◌, ◌<◌, ◌+◌, max, ℕ, List, [], ◌∷◌, ◌++◌, length, take, drop, zero, suc, ◌≤◌, Some, inl, inr, refl, sym, ap, ◌∙◌, arith}
+use Rattle.std.specs.Prelude.{◌⊎◌, slice_get, Option, None, option_map}
 use Rattle.run_record.specs.declared.entry.Entry.{Entry}
-use Rattle.run_laws.specs.Rounds.{steps_in}
+use Rattle.run_record.specs.declared.flat.Head.{Head}
+use Rattle.run_record.specs.Flat.{head_of}
 use Rattle.turn_orders.specs.Lists.{Each, In, InOrder}
 use Rattle.table_deeds.specs.Listing.{AreApart}
-use Rattle.table_deeds.specs.Rounds.{greatest_in}
-use Rattle.turn_laws.proofs.PartLaw.{steps_more}
 
 pub in_first : {X : Type 0} (x : X) (xs ys : List X) → In x xs → In x (xs ++ ys)
 in_first x [] ys i = absurd i
@@ -42,12 +40,24 @@ apart_then ts n o f = order_then (λ (t u : ℕ). t ≢ u) ts n o (λ t i e. let
 
 -- ---- entries
 
-pub greatest_then : (es : List Entry) (e : Entry) → greatest_in (es ++ e ∷ []) ≡ max (greatest_in es) e.stamp
-greatest_then [] e = omega arith
-greatest_then (x ∷ es) e = ap (max x.stamp) (greatest_then es e) ∙ omega arith
+-- the first of the entries from that number on
+pub drop_first : (es : List Entry) (n : ℕ) (e : Entry) → slice_get es n ≡ Some e → drop n es ≡ e ∷ drop (n + 1) es
+drop_first [] n e is = absurd cc
+drop_first (x ∷ es) zero e is = let same : x ≡ e = cc in ap (λ (y : Entry). y ∷ es) same
+drop_first (x ∷ es) (suc n) e is = drop_first es n e is
 
-pub steps_then : (es : List Entry) (e : Entry) → steps_in (es ++ e ∷ []) ≡ steps_in es + e.steps
-steps_then es e = let m = steps_more es (e ∷ []) in let one : steps_in (e ∷ []) ≡ 0 + e.steps = refl in omega (arith, m, one)
+-- the entry of that number, which has that head, is the first from there on
+pub record IsHeaded (es : List Entry) (n : ℕ) (h : Head) : Type 0 where
+  pub entry : Entry
+  pub front : drop n es ≡ entry ∷ drop (n + 1) es
+  pub stamp_is : entry.stamp ≡ h.stamp
+  pub steps_are : entry.steps ≡ h.steps
 
-pub entry_then : (es : List Entry) (i : ℕ) (e : Entry) → i < length es → e ≡ get_or es i e → take (i + 1) es ≡ take i es ++ e ∷ []
-entry_then es i e l is = take_more es i e l ∙ ap (λ (x : Entry). take i es ++ x ∷ []) (sym is)
+pub headed : (es : List Entry) (n : ℕ) (h : Head) → option_map head_of (slice_get es n) ≡ Some h → IsHeaded es n h
+headed es n h is = found (slice_get es n) refl is
+  where
+    found : (o : Option Entry) → slice_get es n ≡ o → option_map head_of o ≡ Some h → IsHeaded es n h
+    found None at e = absurd cc
+    found (Some entry) at e =
+        let same : head_of entry ≡ h = cc in
+        record { entry = entry; front = drop_first es n entry at; stamp_is = ap (λ (x : Head). x.stamp) same; steps_are = ap (λ (x : Head). x.steps) same }

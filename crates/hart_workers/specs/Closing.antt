@@ -1,7 +1,8 @@
 -- The turn of the desk behind a round, and what it changes.
-use Rattle.std.specs.Prelude.{◌≡◌, ◌↔◌, ◌<◌, ◌+◌, ◌-◌, ◌++◌, max, ℕ, Bool, if◌then◌else◌, List, Option}
+use Rattle.std.specs.Prelude.{◌≡◌, ◌↔◌, ◌<◌, ◌+◌, ◌-◌, ◌++◌, max, ℕ, Bool, if◌then◌else◌, List, Option, IsPermutation}
 use Rattle.run_record.specs.declared.entry.Entry.{Entry}
 use Rattle.run_record.specs.declared.limits.Limits.{Limits}
+use Rattle.run_record.specs.Order.{AreOrdered, entries_in}
 use Rattle.run_laws.specs.Reports.{Kept}
 use Rattle.run_laws.specs.Rounds.{steps_in}
 use Rattle.bare_machine.specs.Step.{desk}
@@ -77,3 +78,10 @@ pub record GoesOn (entries : List Entry) (ends : Bool) (old new : Rounds) : Type
   pub last_era : new.last_era ≡ old.era
   pub base : new.base ≡ max old.base (greatest_in entries)
   pub remaining : new.remaining ≡ old.remaining - steps_in entries
+
+-- The same behind a round with these logs, whose entries were merged in order.
+pub record GoesOnBy (logs : List (List Entry)) (ends : Bool) (old new : Rounds) : Type 0 where
+  pub entries : List Entry
+  pub same : IsPermutation (entries_in logs) entries
+  pub ordered : AreOrdered entries
+  pub onward : GoesOn entries ends old new

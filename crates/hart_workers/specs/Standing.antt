@@ -1,7 +1,8 @@
 -- Where a parallel run stands between two rounds, and at the end of one.
-use Rattle.std.specs.Prelude.{◌≡◌, ℕ, Bool, List, [], Option, None, Some}
+use Rattle.std.specs.Prelude.{◌≡◌, ℕ, Bool, List, [], Option, None, Some, All, IsPermutation}
 use Rattle.run_record.specs.declared.entry.Entry.{Entry}
 use Rattle.run_record.specs.declared.limits.Limits.{Limits}
+use Rattle.run_record.specs.Order.{AreOrdered, AreDistinct, entries_in}
 use Rattle.run_laws.specs.Reports.{Kept, kept_of}
 use Rattle.shared_table.specs.declared.object.DeskState.{DeskState}
 use Rattle.shared_table.specs.declared.object.Object.{Object}
@@ -102,9 +103,15 @@ pub record IsOneMore (file : List ℕ) (limits : Limits) (x : SoFar) (v : View) 
   pub idle : IsIdle limits (stand_after (stand_in limits x) y) states
   pub traces : HaveTraces (at_round_end (stand_in limits x) y) states
 
+-- What a round made: the entries as they are merged, the accesses that wait for its end, in order, and whether a thread was starved.
+pub record MergedRound : Type 0 where
+  pub entries : List Entry
+  pub pending : List Keyed
+  pub starved : Bool
+
 -- Behind these rounds one more has been made, and its turn of the desk is still to come.
-pub record IsAtEnd (meets : Option (List ℕ) → Option (List ℕ) → Bool) (file : List ℕ) (limits : Limits) (lay : Layout) (v : View)
-    (r : Rounds) (made : RoundMade) (kept : Kept) : Type 0 where
+pub record IsMergedEnd (meets : Option (List ℕ) → Option (List ℕ) → Bool) (file : List ℕ) (limits : Limits) (lay : Layout) (v : View)
+    (r : Rounds) (made : MergedRound) (kept : Kept) : Type 0 where
   pub so_far : SoFar
   pub known : IsKnown file limits lay so_far
   pub kept_is : kept ≡ kept_of meets (all_told so_far.told)
@@ -114,3 +121,15 @@ pub record IsAtEnd (meets : Option (List ℕ) → Option (List ℕ) → Bool) (f
   pub starved : made.starved ≡ merged.ends
   pub more : (turn : ℕ) (found left : Object) →
       IsOneMore file limits so_far v made.pending r.crew.states.items (round_with merged turn found left)
+
+abbrev pub merged_round : RoundMade → List Entry → MergedRound
+merged_round made entries = record { entries = entries; pending = made.pending; starved = made.starved }
+
+-- The same before the logs are merged: each is in order, no two entries have the same place in it, and whatever list in order has all
+-- of them, with it the round is at its end.
+pub record IsAtEnd (meets : Option (List ℕ) → Option (List ℕ) → Bool) (file : List ℕ) (limits : Limits) (lay : Layout) (v : View)
+    (r : Rounds) (made : RoundMade) (kept : Kept) : Type 0 where
+  pub ordered : All AreOrdered made.logs.items
+  pub distinct : AreDistinct (entries_in made.logs.items)
+  pub merges : (entries : List Entry) → IsPermutation (entries_in made.logs.items) entries → AreOrdered entries →
+      IsMergedEnd meets file limits lay v r (merged_round made entries) kept

@@ -1,5 +1,6 @@
 // The end of a round.
-ghost use Rattle.std.specs.Prelude.{◌≡◌, ◌++◌, max, OnOk, IfOk};
+ghost use Rattle.std.specs.Prelude.{◌≡◌, max, drop, All, OnOk, IfOk};
+ghost use Rattle.run_record.specs.Order.{AreOrdered, AreDistinct, entries_in};
 ghost use Rattle.run_laws.specs.Rounds.{steps_in};
 ghost use Rattle.report_text.specs.Offers.{is_met};
 ghost use Rattle.thread_turns.specs.Ranges.{AreLimits};
@@ -13,7 +14,7 @@ ghost use Rattle.shared_table.specs.Steps.{Mine};
 ghost use Rattle.shared_table.specs.Seats.{IsOpener, Took};
 ghost use Rattle.hart_workers.specs.Tells.{CanTell};
 ghost use Rattle.hart_workers.specs.Standing.{IsBetween, IsAtEnd};
-ghost use Rattle.hart_workers.specs.Closing.{IsDeskIn, CanTellBy, EndsBy, EndsIn, EndsInTurn, GoesOn};
+ghost use Rattle.hart_workers.specs.Closing.{IsDeskIn, CanTellBy, EndsBy, EndsIn, EndsInTurn, GoesOnBy};
 
 use crate::making::RoundMade;
 use crate::pending::PendingList;
@@ -23,7 +24,7 @@ use crate::telling::tell_reports;
 use elf_image::Image;
 use hart_turns::ThreadState;
 use report_text::{Reporter, Suppressions};
-use run_record::{Entries, Entry, Limits, NoMemory};
+use run_record::{Entries, Limits, NoMemory};
 use shared_table::{DeskState, Object, Shared, SharedSeat};
 use std::alloc::Global;
 use std::sync::Wait;
@@ -56,11 +57,11 @@ impl Rounds {
         ensures rules { reporter.new.rules ≡ reporter.old.rules }
     {
         let RoundMade {
-            entries,
+            logs,
             pending,
             starved,
         } = made;
-        self.go_on(alloc, &entries, starved)?;
+        self.go_on(alloc, logs.as_slice(), starved)?;
         let reading = end_in_turn(
             rt,
             alloc,
@@ -79,14 +80,17 @@ impl Rounds {
         Ok(())
     }
 
-    // The entries of the round join the history, its instructions are paid from the budget, and the next round is counted, in the next era
-    // where the round ends one.
-    fn go_on(&mut self, alloc: Global, entries: &Entries, ends: bool) -> Result<(), NoMemory>
-        ensures onward { OnOk result (GoesOn entries.now ends self.old self.new) }
+    // The entries of the round join the history in order, its instructions are paid from the budget, and the next round is counted, in the
+    // next era where the round ends one.
+    fn go_on(&mut self, alloc: Global, logs: &[Entries], ends: bool) -> Result<(), NoMemory>
+        requires ordered { All AreOrdered logs.now }
+        requires distinct { AreDistinct (entries_in logs.now) }
+        ensures onward { OnOk result (GoesOnBy logs.now ends self.old self.new) }
         ensures crew { OnOk result (self.new.crew ≡ self.old.crew) }
     {
-        let list = entries.to_vec(alloc)?;
-        let steps = join_entries(list.as_slice(), &mut self.entries, &mut self.base)?;
+        let from = self.entries.len();
+        self.entries.append_merged(alloc, logs)?;
+        let steps = count_from(&self.entries, from, &mut self.base)?;
         if self.remaining < steps || self.round == u32::MAX || self.era == u32::MAX {
             return Err(NoMemory);
         }
@@ -100,22 +104,21 @@ impl Rounds {
     }
 }
 
-// Appends the entries to the history. It tells how many instructions they have, and the base becomes the greatest stamp up to the last one.
-fn join_entries(entries: &[Entry], history: &mut Entries, base: &mut u64) -> Result<u32, NoMemory>
-    ensures joined { OnOk result (history.new ≡ history.old ++ entries.now) }
-    ensures base { OnOk result (base.new ≡ max base.old (greatest_in entries.now)) }
-    ensures steps { IfOk result (λ steps. steps ≡ steps_in entries.now) }
+// How many instructions the entries from that number on have. The base becomes the greatest stamp up to the last one.
+fn count_from(entries: &Entries, from: usize, base: &mut u64) -> Result<u32, NoMemory>
+    ensures base { OnOk result (base.new ≡ max base.old (greatest_in (drop from entries.now))) }
+    ensures steps { IfOk result (λ steps. steps ≡ steps_in (drop from entries.now)) }
 {
     let mut steps = 0u32;
-    for entry in entries {
-        history.push_entry(entry)?;
-        steps = match steps.checked_add(entry.steps) {
-            Some(sum) => sum,
-            None => return Err(NoMemory),
+    for n in from..entries.len() {
+        let Some(head) = entries.head(n) else {
+            return Err(NoMemory);
         };
-        if *base < entry.stamp {
-            *base = entry.stamp;
-        }
+        let Some(sum) = steps.checked_add(head.steps) else {
+            return Err(NoMemory);
+        };
+        steps = sum;
+        *base = head.stamp.max(*base);
     }
     Ok(steps)
 }

@@ -9,23 +9,35 @@ ghost use Rattle.hart_workers.specs.Standing.{IsBetween, IsAtEnd};
 use crate::crew::{Due, NewWorkers};
 use crate::pending::PendingList;
 use crate::rounds::Rounds;
-use run_record::{Entries, NoMemory, merge};
+use run_record::{Entries, NoMemory};
 use shared_table::{Shared, SharedSeat, round};
 use std::sync::Wait;
 use std::thread::Threads;
 use tool_ports::Gate;
 
-/// What a round made, before it is recorded: the merged entries, the accesses that wait for its end, in order, and whether a thread was
-/// starved.
+/// What a round made, before it is recorded: what each worker told, the accesses that wait for its end, in order, and whether a thread
+/// was starved.
 #[derive(Drop)]
 pub(crate) struct RoundMade {
-    pub entries: Entries,
+    pub logs: Vec<Entries>,
     pub pending: PendingList,
     pub starved: bool,
 }
 
+/// Starting a thread of the host takes about as long as so many instructions.
+const WORTH_A_THREAD: usize = 2_000;
+
+/// How many threads of the host, of at most so many, so many workers with that share each are worth: two at least.
+fn worth_starting(workers: usize, share: u32, most: usize) -> usize
+    requires { 0 < most }
+    ensures { 0 < result }
+{
+    let due = workers.saturating_mul(share as usize);
+    (due / WORTH_A_THREAD).max(2).min(most)
+}
+
 impl Rounds {
-    /// A worker for each thread that lives makes its part, all at once on so many threads of the host at most. What they told is merged.
+    /// A worker for each thread that lives makes its part, all at once on so many threads of the host at most.
     pub(crate) fn make<R: Threads + Wait + Sync, G: Gate + Sync>(
         &mut self,
         rt: &R,
@@ -54,14 +66,14 @@ impl Rounds {
             base: self.base,
         };
         let workers = self.crew.hire(new, due, self.reading.live.as_slice())?;
+        let threads = worth_starting(workers.len(), self.reading.share, threads);
         let after = round(rt, new.alloc, shared, seat, workers, threads)?;
         let mut logs = Vec::new(new.alloc);
         let mut pending = PendingList::new(new.alloc);
         let starved = self.crew.take_back(after, &mut logs, &mut pending)?;
         pending.sort()?;
-        let history = merge(new.alloc, logs)?;
         Ok(RoundMade {
-            entries: history.entries,
+            logs,
             pending,
             starved,
         })

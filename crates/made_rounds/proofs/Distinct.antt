@@ -1,10 +1,11 @@
 -- The entries of a round's parts have each a stamp and a thread of their own.
-use Rattle.std.proofs.Common.{◌≡◌, ◌≢◌, ◌<◌, ◌≤◌, ◌+◌, ℕ, Some, None, List, [], ◌∷◌, sym, ap, subst, ◌∙◌, arith}
-use Rattle.std.specs.Prelude.{map, Option, AllPairs}
+use Rattle.std.proofs.Common.{◌≡◌, ◌≢◌, ◌<◌, ◌≤◌, ◌+◌, ℕ, Some, None, List, [], ◌∷◌, inl, sym, ap, subst, ◌∙◌, arith}
+use Rattle.std.specs.Prelude.{map, Option, All, AllPairs}
+use Rattle.std.proofs.lemmas.List.Elements.{All-cons}
 use Rattle.std.proofs.lemmas.List.Kept.{AllPairs-cons}
 use Rattle.run_record.specs.declared.entry.Entry.{Entry}
 use Rattle.run_record.specs.declared.limits.Limits.{Limits}
-use Rattle.run_record.specs.Order.{AreDistinct, entries_in}
+use Rattle.run_record.specs.Order.{Precedes, AreOrdered, AreDistinct, entries_in}
 use Rattle.turn_orders.specs.Lists.{Each, InOrder}
 use Rattle.turn_orders.specs.LineUp.{Stamped, LocalsFollow, last_local}
 use Rattle.turn_orders.proofs.Members.{at_member, each_append, order_append}
@@ -135,6 +136,14 @@ module _ (file : List ℕ) (limits : Limits) (lay : Layout) (first : Object) (up
       (λ x y i j q.
       at_member (λ (e : Entry). e.tid ≡ p.thread → ⊥) y (entries_in (map (part_entries file limits) ps)) (others p.thread ps is.1 apart.0) j
       (sym q.1 ∙ at_member (λ (e : Entry). e.tid ≡ p.thread) x (part_entries file limits p) (part_thread p is.0) i))
+
+  -- the entries of each part are in order
+  pub all_ordered : (ps : List Part) → Each (IsPart file limits era) ps → All AreOrdered (map (part_entries file limits) ps)
+  all_ordered [] is = λ k d l. absurd (omega (arith, l))
+  all_ordered (p ∷ ps) is =
+      let es = part_entries file limits p in
+      All-cons AreOrdered es (map (part_entries file limits) ps) (pairs_of Precedes es (order_more IsLess Precedes es (λ x y l. inl l) (part_rises p is.0)))
+      (all_ordered ps is.1)
 
   pub distinct : (ps : List Part) → Each (IsPart file limits era) ps → AreApart (map (λ (p : Part). p.thread) ps) →
       AreDistinct (entries_in (map (part_entries file limits) ps))
