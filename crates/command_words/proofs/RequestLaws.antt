@@ -10,8 +10,9 @@ use Rattle.command_words.proofs.NumberLaws.{number_range}
 use Rattle.command_words.proofs.PlanLaws.{are_turns, no_turns}
 use Rattle.std.specs.Option.{option_map_or}
 use Rattle.command_words.specs.declared.request.Request.{Request}
+use Rattle.command_words.specs.declared.request.Search.{Search}
 use Rattle.std.specs.Prelude.{unwrap_or}
-use Rattle.command_words.specs.Requests.{AreLimits, AreTurns, IsTask, run, step, locks, generate, is_command, file_in, task_text, RequestText, TaskText, task_with, request_of, request_text, Tells, fault_in, has_command, has_plan, has_right_file, ok_unless, plan_in, request_from, request_in}
+use Rattle.command_words.specs.Requests.{AreLimits, AreTurns, IsTask, run, step, search, generate, is_command, search_in, file_in, task_text, RequestText, TaskText, task_with, request_of, request_text, Tells, fault_in, has_command, has_plan, has_right_file, ok_unless, plan_in, request_from, request_in}
 use Rattle.command_words.specs.Parts.{IsRefusal, work_fault}
 use Rattle.command_words.specs.declared.request.Refusal.{Refusal}
 use Rattle.command_words.specs.declared.request.UsageFault.{UsageFault}
@@ -193,17 +194,17 @@ turns_read rows h = chosen (given rows (codes "plan")) h
     chosen None e = no_turns
     chosen (Some text) e = are_turns text e
 
-either_task : (runs steps orders : Bool) (file : Text) (s z : ℕ) → z ≤ 10000 →
-    IsTask (if runs then run file else (if steps then step file else (if orders then locks file else generate s z)))
-either_task true steps orders file s z few = tt
-either_task false true orders file s z few = tt
-either_task false false true file s z few = tt
-either_task false false false file s z few = few
+either_task : (runs steps : Bool) (what : Option Search) (file : Text) (s z : ℕ) → z ≤ 10000 →
+    IsTask (if runs then run file else (if steps then step file else option_map_or (λ w. search w file) what (generate s z)))
+either_task true steps what file s z few = tt
+either_task false true what file s z few = tt
+either_task false false (Some w) file s z few = tt
+either_task false false None file s z few = few
 
 is_task : (rows : List Row) → has_numbers rows ≡ true → IsTask (request_in rows).task
 unfolding task_with
 is_task rows numbers =
-    either_task (is_command rows (codes "run")) (is_command rows (codes "step")) (is_command rows (codes "locks")) (unwrap_or (file_in rows) []) (number rows seed) (number rows size)
+    either_task (is_command rows (codes "run")) (is_command rows (codes "step")) (search_in rows) (unwrap_or (file_in rows) []) (number rows seed) (number rows size)
     (number_range rows numbers 8 (lit< tt) (lit≤ tt) (lit≤ tt)).1
 
 -- an accepted request's numbers are in their ranges

@@ -1,7 +1,7 @@
 -- What the parts of the code answer on the way to a request. No public clause cites these.
 use Rattle.std.specs.Prelude.{ℕ, ◌≡◌, ◌⊎◌, Bool, false, not, List, Option, Some, None, Result, Ok, Err, if◌then◌else◌}
 use Rattle.clap.specs.Walk.{Row}
-use Rattle.command_words.specs.Requests.{TaskText, generate, has_command, has_right_file, run, step, locks, task_with}
+use Rattle.command_words.specs.Requests.{TaskText, generate, has_command, has_right_file, run, step, search, task_with}
 use Rattle.command_words.specs.declared.reader.Work.{Work}
 use Rattle.command_words.specs.declared.reader.Work.TheVariants as work
 use Rattle.command_words.specs.declared.request.Refusal.{Refusal}
@@ -13,7 +13,7 @@ use Rattle.command_words.specs.declared.request.UsageFault.TheVariants as fault
 abbrev pub work_task : Work → ℕ → ℕ → TaskText
 work_task (work.Run file) _ _ = run file.now
 work_task (work.Step file) _ _ = step file.now
-work_task (work.Locks file) _ _ = locks file.now
+work_task (work.Search what file) _ _ = search what file.now
 work_task work.Generate s z = generate s z
 
 -- the first fault of the command and its file

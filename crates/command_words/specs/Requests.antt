@@ -11,6 +11,8 @@ use Rattle.command_words.specs.Plans.{is_plan, turns_of}
 use Rattle.command_words.specs.declared.request.Refusal.{Refusal}
 use Rattle.command_words.specs.declared.request.Refusal.TheVariants.{Usage, NoMemory}
 use Rattle.command_words.specs.declared.request.Request.{Request}
+use Rattle.command_words.specs.declared.request.Search.{Search}
+use Rattle.command_words.specs.declared.request.Search.TheVariants.{Locks, Pairs}
 use Rattle.command_words.specs.declared.request.Task.{Task}
 use Rattle.command_words.specs.declared.request.Task.TheVariants as task
 use Rattle.command_words.specs.declared.request.UsageFault.{UsageFault}
@@ -20,7 +22,7 @@ use Rattle.command_words.specs.declared.request.UsageFault.TheVariants as fault
 pub data TaskText : Type 0 where
   run : Text → TaskText
   step : Text → TaskText
-  locks : Text → TaskText
+  search : Search → Text → TaskText
   generate : ℕ → ℕ → TaskText
 
 -- a request with its names as texts
@@ -34,7 +36,7 @@ pub record RequestText : Type 0 where
 abbrev pub task_text : Task → TaskText
 task_text (task.Run file) = run file.now
 task_text (task.Step file) = step file.now
-task_text (task.Locks file) = locks file.now
+task_text (task.Search what file) = search what file.now
 task_text (task.Generate s z) = generate s z
 
 -- a request of the code with its names as texts
@@ -50,11 +52,15 @@ request_text request = record {
 abbrev pub is_command : List Row → Text → Bool
 is_command rows name = option_map_or (λ word. bytes_eq word name) (given rows (codes "command")) false
 
+-- what the command looks for in a recorded run, if it looks for something
+abbrev pub search_in : List Row → Option Search
+search_in rows = if is_command rows (codes "locks") then Some Locks else (if is_command rows (codes "audit") then Some Pairs else None)
+
 -- the command runs a file
 abbrev pub runs_file : List Row → Bool
-runs_file rows = (is_command rows (codes "run") || is_command rows (codes "step")) || is_command rows (codes "locks")
+runs_file rows = (is_command rows (codes "run") || is_command rows (codes "step")) || is_some (search_in rows)
 
--- the command is one of the four
+-- the command is one of those that there are
 abbrev pub has_command : List Row → Bool
 has_command rows = runs_file rows || is_command rows (codes "gen")
 
@@ -88,8 +94,7 @@ fault_in rows =
 unfoldable pub task_with : List Row → ℕ → ℕ → TaskText
 task_with rows s z = if is_command rows (codes "run") then run (unwrap_or (file_in rows) [])
     else (if is_command rows (codes "step") then step (unwrap_or (file_in rows) [])
-    else (if is_command rows (codes "locks") then locks (unwrap_or (file_in rows) [])
-    else generate s z))
+    else option_map_or (λ what. search what (unwrap_or (file_in rows) [])) (search_in rows) (generate s z))
 
 -- what is asked for, where there is no fault
 abbrev pub request_in : List Row → RequestText
@@ -123,7 +128,7 @@ Tells wanted (Err NoMemory) = Unit {0}
 abbrev pub IsTask : TaskText → Type 0
 IsTask (run file) = Unit {0}
 IsTask (step file) = Unit {0}
-IsTask (locks file) = Unit {0}
+IsTask (search what file) = Unit {0}
 IsTask (generate s z) = z ≤ 10000
 
 -- the limits are in their ranges

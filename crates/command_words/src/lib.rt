@@ -16,4 +16,4 @@ mod request;
 mod tests;
 
 pub use reader::read_words;
-pub use request::{Refusal, Request, Task, UsageFault};
+pub use request::{Refusal, Request, Search, Task, UsageFault};

@@ -8,7 +8,7 @@ ghost use Rattle.command_words.specs.Parts.{IsRefusal, Works, work_task};
 use crate::command::{parse, text_given};
 use crate::numbers::numbers_in;
 use crate::plans::read_plan;
-use crate::{Refusal, Request, Task, UsageFault};
+use crate::{Refusal, Request, Search, Task, UsageFault};
 use clap::ArgMatches;
 use run_record::{Items, Plan};
 use std::alloc::Global;
@@ -18,7 +18,7 @@ use std::alloc::Global;
 enum Work<'a> {
     Run(&'a str),
     Step(&'a str),
-    Locks(&'a str),
+    Search(Search, &'a str),
     Generate,
 }
 
@@ -30,6 +30,19 @@ fn is_command(matches: &ArgMatches, name: &str) -> bool
         Some(word) => word == name,
         None => false,
     }
+}
+
+/// What the command looks for in a recorded run, if it looks for something.
+fn search_in(matches: &ArgMatches) -> Option<Search>
+    ensures { result ≡ spec.search_in (rows_read matches.now) }
+{
+    if is_command(matches, "locks") {
+        return Some(Search::Locks);
+    }
+    if is_command(matches, "audit") {
+        return Some(Search::Pairs);
+    }
+    None
 }
 
 /// What the command does with a file.
@@ -44,8 +57,8 @@ fn work_on<'a>(matches: &ArgMatches<'a>, file: &'a str) -> Result<Work<'a>, Usag
     if is_command(matches, "step") {
         return Ok(Work::Step(file));
     }
-    if is_command(matches, "locks") {
-        return Ok(Work::Locks(file));
+    if let Some(search) = search_in(matches) {
+        return Ok(Work::Search(search, file));
     }
     if is_command(matches, "gen") {
         return Err(UsageFault::File);
@@ -62,7 +75,7 @@ fn work_without_file<'a>(matches: &ArgMatches<'a>) -> Result<Work<'a>, UsageFaul
     if is_command(matches, "run") || is_command(matches, "step") {
         return Err(UsageFault::File);
     }
-    if is_command(matches, "locks") {
+    if let Some(_) = search_in(matches) {
         return Err(UsageFault::File);
     }
     if is_command(matches, "gen") {
@@ -88,7 +101,7 @@ fn task_of<'a>(work: Work<'a>, seed: u32, size: u32) -> Task<'a>
     match work {
         Work::Run(file) => Task::Run { file },
         Work::Step(file) => Task::Step { file },
-        Work::Locks(file) => Task::Locks { file },
+        Work::Search(search, file) => Task::Search { search, file },
         Work::Generate => Task::Generate { seed, size },
     }
 }
@@ -132,8 +145,8 @@ fn request_in<'a>(alloc: Global, matches: &ArgMatches<'a>) -> Result<Request<'a>
 }
 
 /// Reads the words of a command line, without the program's name before them: a command `run FILE`,
-/// `step FILE`, `locks FILE` or `gen`, and options `--name TEXT` or `--name=TEXT` in any order, each at most once;
-/// behind `--` stand no options. `NoMemory` comes only where memory runs out.
+/// `step FILE`, `audit FILE`, `locks FILE` or `gen`, and options `--name TEXT` or `--name=TEXT` in any order, each
+/// at most once; behind `--` stand no options. `NoMemory` comes only where memory runs out.
 pub fn read_words<'a>(alloc: Global, words: &'a [String]) -> Result<Request<'a>, Refusal>
     ensures told { Tells (request_of (map string_bytes words.entry.now)) result }
     ensures limits { IfOk result (λ request. AreLimits request.limits) }

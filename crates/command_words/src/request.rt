@@ -8,9 +8,9 @@ pub enum UsageFault {
     /// An unknown option, an option given twice or without its text, a call for help, no command,
     /// or more than a command and a file.
     Words,
-    /// The command isn't `run`, `step`, `locks` or `gen`.
+    /// The command isn't `run`, `step`, `audit`, `locks` or `gen`.
     Command,
-    /// `run`, `step` or `locks` without a file, or `gen` with one.
+    /// `run`, `step`, `audit` or `locks` without a file, or `gen` with one.
     File,
     /// A number isn't 1 to 10 decimal digits, or it is out of its range.
     Number,
@@ -40,6 +40,15 @@ impl From<AllocError> for Refusal {
     }
 }
 
+/// What is looked for in a recorded run.
+#[derive(Clone, Copy, Debug, PartialEq, Eq)]
+pub enum Search {
+    /// Cycles in the order in which threads took mutexes.
+    Locks,
+    /// All pairs of code places that race.
+    Pairs,
+}
+
 /// What is to be done.
 #[derive(Clone, Copy, Debug, PartialEq, Eq)]
 pub enum Task<'a> {
@@ -47,8 +56,8 @@ pub enum Task<'a> {
     Run { file: &'a str },
     /// Runs an executable, one thread at a time.
     Step { file: &'a str },
-    /// Runs an executable, one thread at a time, and tells of the order in which mutexes were taken.
-    Locks { file: &'a str },
+    /// Runs an executable, one thread at a time, and looks for that in the recorded run.
+    Search { search: Search, file: &'a str },
     /// Makes an executable from the seed, with so many operations in each thread.
     Generate { seed: u32, size: u32 },
 }

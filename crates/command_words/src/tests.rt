@@ -1,12 +1,12 @@
 // Command lines and their answers. A line is cut into words at its spaces.
 ghost use Rattle.std.specs.Prelude.{◌≡◌, IfOk};
 
-use crate::{Refusal, Request, Task, UsageFault, read_words};
+use crate::{Refusal, Request, Search, Task, UsageFault, read_words};
 use run_record::{Limits, NoMemory, Turn};
 use std::alloc::Global;
 use std::test::Fail;
 
-static REFUSED: [(&str, UsageFault); 42] = [
+static REFUSED: [(&str, UsageFault); 44] = [
     ("", UsageFault::Command),
     ("--help", UsageFault::Words),
     ("-h", UsageFault::Words),
@@ -35,6 +35,8 @@ static REFUSED: [(&str, UsageFault); 42] = [
     ("gen a", UsageFault::File),
     ("locks", UsageFault::File),
     ("lock a", UsageFault::Command),
+    ("audit", UsageFault::File),
+    ("pairs a", UsageFault::Command),
     ("gen --harts=", UsageFault::Number),
     ("gen --harts=+4", UsageFault::Number),
     ("gen --harts=0", UsageFault::Number),
@@ -51,10 +53,11 @@ static REFUSED: [(&str, UsageFault); 42] = [
     ("gen --harts=3 --slots=2", UsageFault::FewSlots),
 ];
 
-static ACCEPTED: [&str; 9] = [
+static ACCEPTED: [&str; 10] = [
     "gen",
     "run a",
     "locks a",
+    "audit a",
     "step a --harts 64 --slots 64",
     "step --seed=0000000001 -- -a",
     "gen --seed=4294967295 --size=0",
@@ -62,6 +65,8 @@ static ACCEPTED: [&str; 9] = [
     "gen --plan 0:1",
     "step a --suppressions=",
 ];
+
+static SEARCHES: [(&str, Search); 2] = [("locks a", Search::Locks), ("audit a", Search::Pairs)];
 
 fn words_of(alloc: Global, line: &str) -> Result<Vec<String>, NoMemory> {
     let mut words = Vec::new(alloc);
@@ -93,6 +98,20 @@ fn accepted_lines(rt: HostRuntime) -> Result<(), Fail> {
     for line in ACCEPTED.iter() {
         let words = words_of(rt.alloc(), line)?;
         assert!(rt; read_words(rt.alloc(), words.as_slice()).is_ok(), "{line}");
+    }
+    Ok(())
+}
+
+#[test]
+fn what_is_looked_for(rt: HostRuntime) -> Result<(), Fail> {
+    for (line, search) in SEARCHES.iter() {
+        let words = words_of(rt.alloc(), line)?;
+        let request = read_words(rt.alloc(), words.as_slice()).expect(&rt, "a request");
+        let task = Task::Search {
+            search: *search,
+            file: "a",
+        };
+        assert!(rt; request.task == task, "{line}");
     }
     Ok(())
 }

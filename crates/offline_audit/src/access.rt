@@ -2,12 +2,13 @@
 ghost use Rattle.std.specs.Prelude.{◌≡◌, ◌<◌, ◌++◌, ◌^◌, ◌↔◌, ◌⊎◌, length, Contains, IfOk, OnOk};
 ghost use Rattle.std.specs.List.Sorted.{IsNonDecreasingBy};
 ghost use Rattle.offline_audit.specs.declared.access.Made.{Made};
-ghost use Rattle.offline_audit.specs.Orders.{AreFew};
+ghost use Rattle.run_record.specs.declared.entry.Entry.{Entry};
 ghost use Rattle.offline_audit.specs.Kinds as kinds;
 ghost use Rattle.offline_audit.specs.Kinds.{made_from, IsMadeBy, IsMade};
 
 use crate::order::EventName;
-use run_record::{Entry, Event, NoMemory, Record};
+use crate::walked::walked;
+use run_record::{Event, NoMemory, Record};
 use std::alloc::Global;
 
 /// What an access is, whenever it is made: its thread, its code place, its first and last byte, and how it is made.
@@ -74,37 +75,40 @@ fn add_access(
 }
 
 /// Appends the accesses of the entry with that number.
-fn add_accesses(made: &mut Vec<Made>, number: u32, entry: &Entry) -> Result<(), NoMemory>
-    requires { length entry.now.events < 2 ^ 32 }
-    ensures { OnOk result ((m : Made) → Contains made.new.items m
-        ↔ (Contains made.old.items m ⊎ IsMadeBy number entry.now m)) }
+fn add_accesses(
+    made: &mut Vec<Made>,
+    number: u32,
+    tid: u32,
+    events: &[Event],
+) -> Result<(), NoMemory>
+    requires { length events.now < 2 ^ 32 }
+    ensures { OnOk result ((entry : Entry) → entry.tid ≡ tid → entry.events ≡ events.now
+        → (m : Made) → Contains made.new.items m ↔ (Contains made.old.items m ⊎ IsMadeBy number entry m)) }
 {
-    for (n, event) in entry.events.as_slice().iter().enumerate() {
+    for (n, event) in events.iter().enumerate() {
         let name = EventName {
             entry: number,
             event: n as u32,
         };
-        add_access(made, entry.tid, event, name)?;
+        add_access(made, tid, event, name)?;
     }
     Ok(())
 }
 
 /// The accesses in the history's order.
 fn in_order(alloc: Global, history: &Record) -> Result<Vec<Made>, NoMemory>
-    requires { AreFew history.now.entries }
     ensures { IfOk result (λ made. (m : Made) → Contains made.items m ↔ IsMade history.now.entries m) }
 {
     let mut made = Vec::new(alloc);
-    let entries = history.entries.to_vec(alloc)?;
-    for (n, entry) in entries.iter().enumerate() {
-        add_accesses(&mut made, n as u32, entry)?;
+    let walk = walked(alloc, history)?;
+    for (n, entry) in walk.iter().enumerate() {
+        add_accesses(&mut made, n as u32, entry.tid, entry.events)?;
     }
     Ok(made)
 }
 
 /// The accesses by rising address. Those of one kind stand together, in the history's order.
 pub(crate) fn accesses(alloc: Global, history: &Record) -> Result<Vec<Made>, NoMemory>
-    requires { AreFew history.now.entries }
     ensures all { IfOk result (λ made. (m : Made) → Contains made.items m ↔ IsMade history.now.entries m) }
     ensures rising { IfOk result (λ made. IsNonDecreasingBy (λ m. m.kind.addr) made.items) }
 {

@@ -30,6 +30,9 @@ mod tests;
 mod text;
 
 pub use laws::pair_text_law;
+
+mod walked;
+
 pub use order::{EventName, Order};
 pub use races::pairs;
 pub use text::{PairTexts, pair_texts};

@@ -6,14 +6,15 @@ ghost use Rattle.run_laws.specs.Moments.{Item, Does, moments, items};
 ghost use Rattle.run_laws.specs.HappensBefore.{HappensBefore};
 ghost use Rattle.offline_audit.specs.Heard.{known_of, TellBy, AreRising};
 ghost use Rattle.offline_audit.specs.Known.{AreNumbers, Stands, GoesOn, Passes, steps_between};
-ghost use Rattle.offline_audit.specs.Orders.{AreFew, IsAt, Makes, AreRows, TellsOrder, IsOrderOf, IsOrderWithoutMutexes};
+ghost use Rattle.offline_audit.specs.Orders.{IsAt, Makes, AreRows, TellsOrder, IsOrderOf, IsOrderWithoutMutexes};
 ghost use Rattle.offline_audit.specs.Mutexes.{mutex_events, is_mutex_event, without_mutexes, AreAwaited};
 
 use crate::clock::Clock;
 use crate::heard::Step;
 use crate::known::{Known, Threads, note_event};
 use crate::mutex::pass;
-use run_record::{Entry, Event, NoMemory, Record};
+use crate::walked::walked;
+use run_record::{Event, NoMemory, Record};
 use std::alloc::Global;
 
 /// An event, by its entry and its place among the entry's events, both counted from 0.
@@ -50,15 +51,15 @@ fn known_by(steps: &[Step], at: u64) -> u64
 }
 
 /// One more entry.
-fn note_entry(alloc: Global, known: &mut Known, entry: &Entry) -> Result<(), NoMemory>
-    requires { known.old.count + length entry.now.events < 2 ^ 64 }
-    ensures count { OnOk result (known.new.count ≡ known.old.count + length entry.now.events) }
+fn note_entry(alloc: Global, known: &mut Known, tid: u32, events: &[Event]) -> Result<(), NoMemory>
+    requires { known.old.count + length events.now < 2 ^ 64 }
+    ensures count { OnOk result (known.new.count ≡ known.old.count + length events.now) }
     ensures stands { OnOk result ((h : ℕ → Item) (number : ℕ → ℕ) (n : ℕ) → AreNumbers h number
-        → Makes h n entry.now.tid entry.now.events → Stands h number n known.old
-        → Stands h number (n + length entry.now.events) known.new) }
+        → Makes h n tid events.now → Stands h number n known.old
+        → Stands h number (n + length events.now) known.new) }
 {
-    for event in entry.events.as_slice() {
-        note_event(alloc, known, entry.tid, event)?;
+    for event in events {
+        note_event(alloc, known, tid, event)?;
     }
     Ok(())
 }
@@ -92,18 +93,19 @@ fn note_without(
     alloc: Global,
     known: &mut Known,
     left: &mut Clock,
-    entry: &Entry,
+    tid: u32,
+    events: &[Event],
 ) -> Result<(), NoMemory>
-    requires { known.old.count + length entry.now.events < 2 ^ 64 }
-    ensures count { OnOk result (known.new.count ≡ known.old.count + length entry.now.events) }
+    requires { known.old.count + length events.now < 2 ^ 64 }
+    ensures count { OnOk result (known.new.count ≡ known.old.count + length events.now) }
     ensures stands { OnOk result ((h : ℕ → Item) (number : ℕ → ℕ) (n : ℕ) → AreNumbers h number
-        → Makes h n entry.now.tid entry.now.events → AreAwaited h n left.old
+        → Makes h n tid events.now → AreAwaited h n left.old
         → Stands (without_mutexes h) number n known.old
-        → Stands (without_mutexes h) number (n + length entry.now.events) known.new
-        × AreAwaited h (n + length entry.now.events) left.new) }
+        → Stands (without_mutexes h) number (n + length events.now) known.new
+        × AreAwaited h (n + length events.now) left.new) }
 {
-    for event in entry.events.as_slice() {
-        note_or_pass(alloc, known, left, entry.tid, event)?;
+    for event in events {
+        note_or_pass(alloc, known, left, tid, event)?;
     }
     Ok(())
 }
@@ -134,20 +136,19 @@ fn heard_of(threads: &Threads, tid: u32, other: u32, at: u64) -> u64
 }
 
 impl Order {
-    /// The order of a history. It needn't be that of a run.
+    /// The order of a history. It needn't be that of a run. There is no memory for 2^32 entries.
     pub fn new(alloc: Global, history: &Record) -> Result<Order, NoMemory>
-        requires { AreFew history.now.entries }
         ensures { IfOk result (IsOrderOf history.now.entries) }
     {
         let mut rows = Vec::new(alloc);
         let mut known = Known::new(alloc);
-        let entries = history.entries.to_vec(alloc)?;
-        for entry in &entries {
+        let walk = walked(alloc, history)?;
+        for entry in &walk {
             rows.push(Row {
                 tid: entry.tid,
                 first: known.count,
             })?;
-            note_entry(alloc, &mut known, entry)?;
+            note_entry(alloc, &mut known, entry.tid, entry.events)?;
         }
         let Known { threads, .. } = known;
         Ok(Order { rows, threads })
@@ -155,19 +156,18 @@ impl Order {
 
     /// The order of a history of which the events are left out that belong to mutexes.
     pub fn without_mutexes(alloc: Global, history: &Record) -> Result<Order, NoMemory>
-        requires { AreFew history.now.entries }
         ensures { IfOk result (IsOrderWithoutMutexes history.now.entries) }
     {
         let mut rows = Vec::new(alloc);
         let mut known = Known::new(alloc);
         let mut left = Clock::new(alloc);
-        let entries = history.entries.to_vec(alloc)?;
-        for entry in &entries {
+        let walk = walked(alloc, history)?;
+        for entry in &walk {
             rows.push(Row {
                 tid: entry.tid,
                 first: known.count,
             })?;
-            note_without(alloc, &mut known, &mut left, entry)?;
+            note_without(alloc, &mut known, &mut left, entry.tid, entry.events)?;
         }
         let Known { threads, .. } = known;
         Ok(Order { rows, threads })

@@ -3,7 +3,7 @@ ghost use Rattle.std.specs.Prelude.{◌≡◌, ◌↔◌, ◌<◌, ℕ, List, Co
 ghost use Rattle.std.specs.List.Sorted.{IsNonDecreasing};
 ghost use Rattle.elf_image.specs.File.{granule_of};
 ghost use Rattle.run_record.specs.declared.entry.Entry.{Entry};
-ghost use Rattle.offline_audit.specs.Orders.{AreFew, IsOrderOf};
+ghost use Rattle.offline_audit.specs.Orders.{IsOrderOf};
 ghost use Rattle.offline_audit.specs.Pairs.{IsRacingPair, AreRisingPairs};
 ghost use Rattle.offline_audit.specs.Kinds.{HasGranule, KindsConflict};
 ghost use Rattle.offline_audit.specs.Chains.{IsChain};
@@ -128,8 +128,7 @@ pub fn pairs(
     history: &Record,
     order: &Order,
 ) -> Result<Pairs, NoMemory>
-    requires few { AreFew history.now.entries }
-    requires order { IsOrderOf history.now.entries order.now }
+    requires { IsOrderOf history.now.entries order.now }
     ensures rising { IfOk result AreRisingPairs }
     ensures exact { IfOk result (λ pairs. (p q : ℕ) → Contains pairs (record { low = p; high = q })
         ↔ IsRacingPair (granule_of image.now) history.now.entries p q) }

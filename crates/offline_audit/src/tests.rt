@@ -1,7 +1,6 @@
 // Orders of random histories, beside a plain closure of the pairs that order two events.
 ghost use Rattle.std.specs.Prelude.{◌≡◌, ◌<◌, ◌≤◌, ◌+◌, ◌++◌, ◌∷◌, [], length, OnOk, IfOk};
 ghost use Rattle.run_record.specs.Flat.{entry_of};
-ghost use Rattle.offline_audit.specs.Orders.{AreFew};
 
 use crate::{EventName, Order};
 use run_record::{DeskNote, Entries, Event, Head, NoMemory, Part, Record};
@@ -185,13 +184,7 @@ fn event_of(seed: u64) -> Event {
 }
 
 // An entry of a few events of the thread.
-fn put(entries: &mut Entries, tid: u32, events: &[Event]) -> Result<(), NoMemory>
-    requires few { AreFew entries.old }
-    requires room { length entries.old < 100 }
-    requires short { length events.now < 100 }
-    ensures few { OnOk result (AreFew entries.new) }
-    ensures length { OnOk result (length entries.new ≡ length entries.old + 1) }
-{
+fn put(entries: &mut Entries, tid: u32, events: &[Event]) -> Result<(), NoMemory> {
     let head = Head {
         round: tid,
         era: tid,
@@ -203,9 +196,7 @@ fn put(entries: &mut Entries, tid: u32, events: &[Event]) -> Result<(), NoMemory
 }
 
 // A history of nine entries, with three events or none.
-fn random_history(alloc: Global, start: u64, made: &mut Vec<Made>) -> Result<Record, NoMemory>
-    ensures { IfOk result (λ history. AreFew history.entries) }
-{
+fn random_history(alloc: Global, start: u64, made: &mut Vec<Made>) -> Result<Record, NoMemory> {
     let mut entries = Entries::new(alloc);
     let mut seed = start;
     for entry in 0..9u32 {

@@ -3,7 +3,6 @@ ghost use Rattle.std.specs.Prelude.{◌≡◌, ◌++◌, IfOk, length};
 ghost use Rattle.std.specs.List.{flat_map};
 ghost use Rattle.elf_image.specs.File.{granule_of};
 ghost use Rattle.report_text.specs.Texts.{pair_bytes};
-ghost use Rattle.offline_audit.specs.Orders.{AreFew};
 ghost use Rattle.offline_audit.specs.Texts.{count_line, IsPairText};
 
 use crate::order::Order;
@@ -24,11 +23,7 @@ pub struct PairTexts {
 }
 
 /// The text of each pair, and then the line that counts them.
-fn texts_of<F: Frames>(
-    alloc: Global,
-    pairs: &Pairs,
-    frames: &F,
-) -> Result<Vec<Vec<u8>>, NoMemory>
+fn texts_of<F: Frames>(alloc: Global, pairs: &Pairs, frames: &F) -> Result<Vec<Vec<u8>>, NoMemory>
     ensures { IfOk result (λ v. flat_map (λ t. t.items) v.items
         ≡ flat_map (pair_bytes (F.frame_of frames.now)) pairs.now ++ count_line (length pairs.now)) }
 {
@@ -49,7 +44,6 @@ pub fn pair_texts<F: Frames>(
     history: &Record,
     frames: &F,
 ) -> Result<PairTexts, NoMemory>
-    requires { AreFew history.now.entries }
     ensures { IfOk result (λ told. IsPairText (granule_of image.now) (F.frame_of frames.now) history.now.entries told.count
         (flat_map (λ t. t.items) told.texts.items)) }
 {

@@ -1,4 +1,5 @@
 // Runs of the command over files and sinks in memory.
+mod audits;
 mod closure;
 mod counted;
 mod endings;

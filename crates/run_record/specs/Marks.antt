@@ -1,5 +1,5 @@
 -- What few of many things have.
-use Rattle.std.specs.Prelude.{◌≡◌, ℕ, zero, suc, ◌==◌, if◌then◌else◌, List, [], ◌∷◌, Option, Some, None}
+use Rattle.std.specs.Prelude.{◌≡◌, ℕ, zero, suc, ◌==◌, nat_lt, if◌then◌else◌, List, [], ◌∷◌, Option, Some, None}
 use Rattle.run_record.specs.declared.entry.DeskNote.{DeskNote}
 use Rattle.run_record.specs.declared.entry.DeskNote.TheVariants.{Nothing, Attach, Leave}
 use Rattle.run_record.specs.declared.flat.Mark.{Mark}
@@ -31,3 +31,12 @@ note_marks n (Leave label) = mark n (Leave label) ∷ []
 abbrev pub AreUsed : {T : Type 0} → ℕ → ℕ → List (Mark T) → Type 0
 AreUsed n zero marks = marks ≡ []
 AreUsed n (suc count) marks = AreUsed (suc n) count (rest_at n marks)
+
+-- the marks of what stands before that number, and the later ones
+abbrev pub marks_before : {T : Type 0} → ℕ → List (Mark T) → List (Mark T)
+marks_before n [] = []
+marks_before n (x ∷ marks) = if nat_lt x.at n then x ∷ marks_before n marks else []
+
+abbrev pub marks_from : {T : Type 0} → ℕ → List (Mark T) → List (Mark T)
+marks_from n [] = []
+marks_from n (x ∷ marks) = if nat_lt x.at n then marks_from n marks else x ∷ marks

@@ -7,7 +7,7 @@ use std::marker::Model;
 /// A `Vec` that contracts see as the list of its elements.
 #[derive(Drop)]
 pub struct Items<T> {
-    items: Vec<T>,
+    pub(crate) items: Vec<T>,
 }
 
 impl<T> Model for Items<T> {

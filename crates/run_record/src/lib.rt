@@ -8,6 +8,7 @@
 #![tactic(auto)]
 
 mod copied;
+mod cut;
 mod entries;
 mod entry;
 mod event;
@@ -19,6 +20,7 @@ mod logs;
 mod no_memory;
 mod plan;
 mod report;
+mod walk;
 
 pub use entries::Entries;
 pub use entry::{Check, DeskNote, Entry, Label, Record};
@@ -31,6 +33,7 @@ pub use logs::merge;
 pub use no_memory::NoMemory;
 pub use plan::{Plan, Turn};
 pub use report::{KeptLock, Report, Side};
+pub use walk::EntryEvents;
 
 /// The events of an entry, in the order in which its thread made them.
 pub type EventList = Items<Event>;

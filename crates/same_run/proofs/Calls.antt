@@ -7,15 +7,20 @@ use Rattle.std.specs.Option.{option_map}
 use Rattle.run_record.specs.declared.finished.Finished.{Finished}
 use Rattle.run_laws.specs.Faithful.{Mode, OneByOne}
 use Rattle.command_words.specs.declared.request.UsageFault.{UsageFault}
-use Rattle.command_words.specs.Requests.{RequestText, TaskText, run, step, locks, generate, request_of}
+use Rattle.command_words.specs.Requests.{RequestText, TaskText, run, step, search, generate, request_of}
 use Rattle.suppress_rules.specs.declared.rule.Rule.{Rule}
 use Rattle.suppress_rules.specs.RuleFile.{rules_of}
 use Rattle.report_text.specs.Status.{end_status}
 use Rattle.run_laws.specs.Moments.{moments}
+use Rattle.elf_image.specs.File.{granule_of}
+use Rattle.symbol_lines.specs.Frames.{tables_of, frame_in}
+use Rattle.command_words.specs.declared.request.Search.{Search}
+use Rattle.command_words.specs.declared.request.Search.TheVariants.{Locks, Pairs}
 use Rattle.lock_order.proofs.SameText.{same_text}
+use Rattle.offline_audit.proofs.SamePairs.{same_text as same_pair_text}
 use Rattle.whole_runs.specs.Run.{IsRun}
 use Rattle.tsanrun_cli.specs.Ends.{served, one_by_one, mode_of, IsExecutable, AreRules, rules_file, suppressed_by, IsDone}
-use Rattle.tsanrun_cli.specs.Texts.{Tells, out_text, err_text}
+use Rattle.tsanrun_cli.specs.Texts.{Tells, IsFound, out_text, err_text}
 use Rattle.tsanrun_cli.specs.Work.{call_of}
 use Rattle.same_run.proofs.Runs.{same_run}
 use Rattle.same_run.proofs.Words.{some_harts}
@@ -28,7 +33,7 @@ was_asked (Ok r) request q = by_task r.task refl
     by_task : (task : TaskText) → r.task ≡ task → ◌≡◌ {A = Result RequestText UsageFault} (Ok r) (Ok request)
     by_task (run file) t = absurd (let z = sym (ap (one_by_one r) t) ∙ q in cc)
     by_task (step file) t = sym (ap (one_by_one r) t) ∙ q
-    by_task (locks file) t = sym (ap (one_by_one r) t) ∙ q
+    by_task (search what file) t = sym (ap (one_by_one r) t) ∙ q
     by_task (generate seed size) t = sym (ap (one_by_one r) t) ∙ q
 
 -- and its threads are stepped one at a time
@@ -39,13 +44,13 @@ stepped asked request q = by_task request.task refl
     by_task (run file) t =
         absurd (let z = sym (ap (one_by_one request) t) ∙ (sym (ap served (was_asked asked request q)) ∙ q) in cc)
     by_task (step file) t = ap mode_of t
-    by_task (locks file) t = ap mode_of t
+    by_task (search what file) t = ap mode_of t
     by_task (generate seed size) t = ap mode_of t
 
 same_executable : (files : List (List ℕ × List ℕ)) (task : TaskText) (bytes other : List ℕ) → IsExecutable (Some files) task bytes → IsExecutable (Some files) task other → bytes ≡ other
 same_executable files (run file) bytes other a b = let z = sym a.has ∙ b.has in cc
 same_executable files (step file) bytes other a b = let z = sym a.has ∙ b.has in cc
-same_executable files (locks file) bytes other a b = let z = sym a.has ∙ b.has in cc
+same_executable files (search what file) bytes other a b = let z = sym a.has ∙ b.has in cc
 same_executable files (generate seed size) bytes other a b = a ∙ sym b
 
 same_rules : (files : List (List ℕ × List ℕ)) (name : Option (List ℕ)) (rules other : List Rule) → AreRules (Some files) name rules → AreRules (Some files) name other → rules ≡ other
@@ -56,13 +61,20 @@ same_rules files (Some name) rules other a b =
     let z = sym a.2 ∙ (ap rules_of same ∙ b.2) in
     cc
 
+-- one text tells what was found in a run, and so much it is
+one_found : (what : Search) (bytes : List ℕ) (f : Finished) (m n : ℕ) (text other : List ℕ) → IsFound what bytes f m text → IsFound what bytes f n other
+    → (m ≡ n) × (text ≡ other)
+one_found Locks bytes f m n text other a b = same_text (moments f.history.entries) m n text other a b
+one_found Pairs bytes f m n text other a b =
+    same_pair_text (granule_of bytes) (frame_in (tables_of bytes)) f.history.entries m n text other a b
+
 -- one text and one status tell of a run
 one_telling : (task : TaskText) (bytes : List ℕ) (f : Finished) (text other : List ℕ) (status code : ℕ) → Tells task bytes f text status → Tells task bytes f other code
     → (text ≡ other) × (status ≡ code)
 one_telling (run file) bytes f text other status code a b = (a.text_is ∙ sym b.text_is, a.status_is ∙ sym b.status_is)
 one_telling (step file) bytes f text other status code a b = (a.text_is ∙ sym b.text_is, a.status_is ∙ sym b.status_is)
-one_telling (locks file) bytes f text other status code a b =
-    let same = same_text (moments f.history.entries) a.count b.count text other a.text_is b.text_is in
+one_telling (search what file) bytes f text other status code a b =
+    let same = one_found what bytes f a.count b.count text other a.found b.found in
     (same.1, a.status_is ∙ (ap (λ (n : ℕ). if nat_lt 0 n then 66 else end_status f.last.end) same.0 ∙ sym b.status_is))
 one_telling (generate seed size) bytes f text other status code a b = (a.text_is ∙ sym b.text_is, a.status_is ∙ sym b.status_is)
 

@@ -1,7 +1,8 @@
 -- The runs of a file's executable and of a made program.
 use Rattle.std.proofs.Common.{◌≡◌, ◌⊎◌, ℕ, [], List, Option, Some, Result, Ok, Err, inl, inr, refl, sym, ap, subst, ◌∙◌}
 use Rattle.elf_image.specs.File.{image_of}
-use Rattle.command_words.specs.Requests.{RequestText, TaskText, run, step, locks, generate}
+use Rattle.command_words.specs.Requests.{RequestText, TaskText, run, step, search, generate}
+use Rattle.command_words.specs.declared.request.Search.{Search}
 use Rattle.gen_program.specs.Program.{program}
 use Rattle.suppress_rules.specs.declared.rule.Rule.{Rule}
 use Rattle.symbol_lines.specs.Frames.{Tables, tables_of, frame_in}
@@ -15,11 +16,9 @@ use Rattle.tsanrun_cli.specs.declared.ended.End.TheVariants.{Done, Usage, Elf, R
 use Rattle.tsanrun_cli.specs.declared.work.Told.{Told}
 use Rattle.std.specs.Prelude.{true, false, ◌++◌, IfOk, nat_lt, if◌then◌else◌}
 use Rattle.std.specs.List.{flat_map}
-use Rattle.run_laws.specs.Moments.{moments}
 use Rattle.report_text.specs.Status.{end_status}
-use Rattle.lock_order.specs.Texts.{IsLockText}
 use Rattle.whole_runs.specs.Run.{IsRun}
-use Rattle.tsanrun_cli.specs.Texts.{Tells, TellsReports, text_of, is_alone}
+use Rattle.tsanrun_cli.specs.Texts.{Tells, TellsReports, IsFound, text_of, is_alone}
 use Rattle.tsanrun_cli.specs.Ends.{suppressed_by, HasShortFile, ExecutesAccepted, Refuses, named_executable, mode_of, IsExecutable, AreRules, rules_file}
 use Rattle.tsanrun_cli.specs.Work.{HasRun, IsTold, AreReportsTold, AreRulesRead, asking, bytes_of}
 
@@ -44,14 +43,15 @@ made_run request files before after failed seed size t task told = record {
   alone_is = told.0.alone_is;
 }
 
--- the run and the text of its cycles are what `locks` tells
-pub lock_told : (request : RequestText) (bytes : List ℕ) (rules : List Rule) (t : Told) (file : List ℕ) (count : ℕ) → request.task ≡ locks file
-    → IsRun OneByOne bytes request.limits request.plan (suppressed_by rules bytes) t.finished → IsLockText (moments t.finished.history.entries) count (flat_map bytes_of t.texts.items)
+-- the run and the text of what was found in it are what a search tells
+pub found_told : (request : RequestText) (bytes : List ℕ) (rules : List Rule) (t : Told) (what : Search) (file : List ℕ) (count : ℕ)
+    → request.task ≡ search what file → IsRun OneByOne bytes request.limits request.plan (suppressed_by rules bytes) t.finished
+    → IsFound what bytes t.finished count (flat_map bytes_of t.texts.items)
     → t.status ≡ (if nat_lt 0 count then 66 else end_status t.finished.last.end) → t.alone ≡ true → IsTold request bytes rules t
-lock_told request bytes rules t file count e is_run text status alone = record {
+found_told request bytes rules t what file count e is_run text status alone = record {
   run = subst (λ (k : TaskText). IsRun (mode_of k) bytes request.limits request.plan (suppressed_by rules bytes) t.finished) (sym e) is_run;
   tells = subst (λ (k : TaskText). Tells k bytes t.finished (flat_map bytes_of t.texts.items) t.status) (sym e)
-      (record { count = count; text_is = text; status_is = status });
+      (record { count = count; found = text; status_is = status });
   alone_is = alone ∙ ap is_alone (sym e);
 }
 
@@ -88,38 +88,42 @@ pub of_plan : {E : Type 0} (P : List Turn → Finished → Type 0) (plan : List 
 of_plan P plan (Ok f) h = h plan
 of_plan P plan (Err x) h = tt
 
+-- the task looks for something in a run of that file
+abbrev pub SearchesFile : TaskText → List ℕ → Type 0
+SearchesFile task file = (what : Search) × (task ≡ search what file)
+
 -- the task runs that file
 abbrev pub RunsFile : TaskText → List ℕ → Type 0
-RunsFile task file = (task ≡ run file) ⊎ ((task ≡ step file) ⊎ (task ≡ locks file))
+RunsFile task file = (task ≡ run file) ⊎ ((task ≡ step file) ⊎ SearchesFile task file)
 
 -- a task that names an executable runs it
 pub which : (task : TaskText) (file : List ℕ) → named_executable task ≡ Some file → RunsFile task file
 which (run name) file e = inl (let same : name ≡ file = cc in ap run same)
 which (step name) file e = inr (inl (let same : name ≡ file = cc in ap step same))
-which (locks name) file e = inr (inr (let same : name ≡ file = cc in ap locks same))
+which (search what name) file e = inr (inr (what, (let same : name ≡ file = cc in ap (search what) same)))
 which (generate seed size) file e = absurd cc
 
--- one whose threads go one at a time is `step` or `locks`, and one whose threads go at once is `run`
-pub which_steps : (task : TaskText) (file : List ℕ) → RunsFile task file → mode_of task ≡ OneByOne → (task ≡ step file) ⊎ (task ≡ locks file)
+-- one whose threads go one at a time is `step` or a search, and one whose threads go at once is `run`
+pub which_steps : (task : TaskText) (file : List ℕ) → RunsFile task file → mode_of task ≡ OneByOne → (task ≡ step file) ⊎ SearchesFile task file
 which_steps task file (inl e) mode = absurd cc
 which_steps task file (inr e) mode = e
 
 pub which_rounds : (task : TaskText) (file : List ℕ) → RunsFile task file → mode_of task ≡ AtOnce → task ≡ run file
 which_rounds task file (inl e) mode = e
 which_rounds task file (inr (inl e)) mode = absurd cc
-which_rounds task file (inr (inr e)) mode = absurd cc
+which_rounds task file (inr (inr e)) mode = absurd (let is = e.1 in cc)
 
 executable_of : (told : Option (List (List ℕ × List ℕ))) (task : TaskText) (file bytes : List ℕ) → RunsFile task file
     → HasShortFile told file bytes → IsExecutable told task bytes
 executable_of told task file bytes (inl e) h = subst (λ (k : TaskText). IsExecutable told k bytes) (sym e) h
 executable_of told task file bytes (inr (inl e)) h = subst (λ (k : TaskText). IsExecutable told k bytes) (sym e) h
-executable_of told task file bytes (inr (inr e)) h = subst (λ (k : TaskText). IsExecutable told k bytes) (sym e) h
+executable_of told task file bytes (inr (inr e)) h = subst (λ (k : TaskText). IsExecutable told k bytes) (sym e.1) h
 
 rules_read : (told : Option (List (List ℕ × List ℕ))) (task : TaskText) (file : List ℕ) (name : Option (List ℕ)) (rules : List Rule)
     → RunsFile task file → AreRules told name rules → AreRules told (rules_file task name) rules
 rules_read told task file name rules (inl e) h = subst (λ (k : TaskText). AreRules told (rules_file k name) rules) (sym e) h
 rules_read told task file name rules (inr (inl e)) h = subst (λ (k : TaskText). AreRules told (rules_file k name) rules) (sym e) h
-rules_read told task file name rules (inr (inr e)) h = subst (λ (k : TaskText). AreRules told (rules_file k name) rules) (sym e) h
+rules_read told task file name rules (inr (inr e)) h = subst (λ (k : TaskText). AreRules told (rules_file k name) rules) (sym e.1) h
 
 -- a call whose words ask for a file's run has it, once the file and its rules are read
 pub file_run : (request : RequestText) (told : Option (List (List ℕ × List ℕ))) (before after : ℕ) (failed file bytes : List ℕ) (rules : List Rule) (t : Told)

@@ -7,7 +7,7 @@ use Rattle.elf_image.specs.declared.fault.ElfFault.{ElfFault}
 use Rattle.elf_image.specs.File.{image_of}
 use Rattle.command_words.specs.declared.request.UsageFault.{UsageFault}
 use Rattle.command_words.specs.declared.request.UsageFault.TheVariants as usage
-use Rattle.command_words.specs.Requests.{TaskText, run, step, locks, generate, RequestText}
+use Rattle.command_words.specs.Requests.{TaskText, run, step, search, generate, RequestText}
 use Rattle.gen_program.specs.Program.{program}
 use Rattle.symbol_lines.specs.Frames.{tables_of, frame_in}
 use Rattle.suppress_rules.specs.declared.rule.Rule.{Rule}
@@ -30,7 +30,7 @@ file_limit = 25165824
 abbrev pub one_by_one : RequestText → TaskText → Result RequestText UsageFault
 one_by_one request (run file) = Err usage.Command
 one_by_one request (step file) = Ok request
-one_by_one request (locks file) = Ok request
+one_by_one request (search what file) = Ok request
 one_by_one request (generate seed size) = Ok request
 
 -- what is served where nobody is waited for
@@ -66,7 +66,7 @@ pub record HasLongFile (told : Option (List (List ℕ × List ℕ))) (name : Lis
 abbrev pub named_executable : TaskText → Option (List ℕ)
 named_executable (run file) = Some file
 named_executable (step file) = Some file
-named_executable (locks file) = Some file
+named_executable (search what file) = Some file
 named_executable (generate seed size) = None
 
 -- the words ask to run that file, with its threads at once or one at a time
@@ -86,21 +86,21 @@ pub record ExecutesAccepted (call : Call) (request : RequestText) (file bytes : 
 abbrev pub mode_of : TaskText → Mode
 mode_of (run file) = AtOnce
 mode_of (step file) = OneByOne
-mode_of (locks file) = OneByOne
+mode_of (search what file) = OneByOne
 mode_of (generate seed size) = OneByOne
 
 -- the executable of a task: the named file's bytes, or those of the made program
 abbrev pub IsExecutable : Option (List (List ℕ × List ℕ)) → TaskText → List ℕ → Type 0
 IsExecutable told (run file) bytes = HasShortFile told file bytes
 IsExecutable told (step file) bytes = HasShortFile told file bytes
-IsExecutable told (locks file) bytes = HasShortFile told file bytes
+IsExecutable told (search what file) bytes = HasShortFile told file bytes
 IsExecutable told (generate seed size) bytes = bytes ≡ program seed size
 
 -- the name of the file of rules that a task reads: a made program is run without rules
 abbrev pub rules_file : TaskText → Option (List ℕ) → Option (List ℕ)
 rules_file (run file) name = name
 rules_file (step file) name = name
-rules_file (locks file) name = name
+rules_file (search what file) name = name
 rules_file (generate seed size) name = None
 
 -- the rules of the named file, and none without one
@@ -283,7 +283,7 @@ end_by_executable after bytes = if nat_lt file_limit (length bytes) then Some Fi
 abbrev pub end_by_task : List (List ℕ × List ℕ) → Option (List ℕ) → TaskText → Option End
 end_by_task files rules (run file) = option_and_then (end_by_executable (end_by_rules_file files rules)) (file_named file files)
 end_by_task files rules (step file) = option_and_then (end_by_executable (end_by_rules_file files rules)) (file_named file files)
-end_by_task files rules (locks file) = option_and_then (end_by_executable (end_by_rules_file files rules)) (file_named file files)
+end_by_task files rules (search what file) = option_and_then (end_by_executable (end_by_rules_file files rules)) (file_named file files)
 end_by_task files rules (generate seed size) = Some Done
 
 -- How a call ends by what its words ask for and by what the files tell, where no read or put fails and memory doesn't run out. None where

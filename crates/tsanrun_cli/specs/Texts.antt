@@ -5,7 +5,10 @@ use Rattle.std.specs.Fmt.{decimal}
 use Rattle.run_record.specs.declared.finished.Finished.{Finished}
 use Rattle.elf_image.specs.declared.fault.ElfFault.{ElfFault}
 use Rattle.elf_image.specs.declared.fault.ElfFault.TheVariants as faults
-use Rattle.command_words.specs.Requests.{TaskText, run, step, locks, generate}
+use Rattle.elf_image.specs.File.{granule_of}
+use Rattle.command_words.specs.declared.request.Search.{Search}
+use Rattle.command_words.specs.declared.request.Search.TheVariants.{Locks, Pairs}
+use Rattle.command_words.specs.Requests.{TaskText, run, step, search, generate}
 use Rattle.symbol_lines.specs.Frames.{tables_of, frame_in}
 use Rattle.suppress_rules.specs.declared.fault.RuleFault.{RuleFault}
 use Rattle.suppress_rules.specs.declared.fault.RuleFault.TheVariants as rules
@@ -13,6 +16,7 @@ use Rattle.report_text.specs.Texts.{report_text, summary_of}
 use Rattle.report_text.specs.Status.{status_of, end_status}
 use Rattle.run_laws.specs.Moments.{moments}
 use Rattle.lock_order.specs.Texts.{IsLockText}
+use Rattle.offline_audit.specs.Texts.{IsPairText}
 use Rattle.tsanrun_cli.specs.declared.ended.End.{End}
 use Rattle.tsanrun_cli.specs.declared.ended.End.TheVariants.{Done, Usage, Elf, Rules, FileTooLong, ReadFault, WriteFault, NoMemory}
 
@@ -21,11 +25,11 @@ abbrev pub made_line : ℕ → ℕ → ℕ → List ℕ
 made_line seed size bytes = codes "gen: seed " ++ (decimal seed ++ (codes ", size " ++ (decimal size ++ (codes ", file " ++ (decimal bytes ++ codes " bytes\n")))))
 
 -- what stands before the last line: for a file the text of each report in order, with the names that the executable's tables
--- tell, and for a made program its line; `locks` tells no report
+-- tell, and for a made program its line; a search tells no report
 abbrev pub before_summary : TaskText → List ℕ → Finished → List ℕ
 before_summary (run file) bytes f = flat_map (report_text (frame_in (tables_of bytes))) f.reports
 before_summary (step file) bytes f = flat_map (report_text (frame_in (tables_of bytes))) f.reports
-before_summary (locks file) bytes f = []
+before_summary (search what file) bytes f = []
 before_summary (generate seed size) bytes f = made_line seed size (length bytes)
 
 -- what tells of the run of an executable
@@ -37,25 +41,31 @@ pub record TellsReports (task : TaskText) (bytes : List ℕ) (f : Finished) (tex
   pub text_is : text ≡ text_of task bytes f
   pub status_is : status ≡ status_of f
 
--- The text and the status tell of a run by the cycles in the order in which its threads took mutexes. Where there is one the status
--- is 66, and else that of the run's end, whether or not there are reports.
-pub record TellsLocks (f : Finished) (text : List ℕ) (status : ℕ) : Type 0 where
+-- So much was found in the recorded run of an executable, and the text tells of it: the cycles in the order in which threads took
+-- mutexes, or the pairs of code places that race, by the names that the executable's tables tell.
+abbrev pub IsFound : Search → List ℕ → Finished → ℕ → List ℕ → Type 0
+IsFound Locks bytes f count text = IsLockText (moments f.history.entries) count text
+IsFound Pairs bytes f count text = IsPairText (granule_of bytes) (frame_in (tables_of bytes)) f.history.entries count text
+
+-- The text and the status tell of a run by what was found in it. Where that is something the status is 66, and else that of the run's
+-- end, whether or not there are reports.
+pub record TellsFound (what : Search) (bytes : List ℕ) (f : Finished) (text : List ℕ) (status : ℕ) : Type 0 where
   pub count : ℕ
-  pub text_is : IsLockText (moments f.history.entries) count text
+  pub found : IsFound what bytes f count text
   pub status_is : status ≡ (if nat_lt 0 count then 66 else end_status f.last.end)
 
 -- the text and the status tell of the run of an executable, as the task has it
 abbrev pub Tells : TaskText → List ℕ → Finished → List ℕ → ℕ → Type 0
 Tells (run file) bytes f text status = TellsReports (run file) bytes f text status
 Tells (step file) bytes f text status = TellsReports (step file) bytes f text status
-Tells (locks file) bytes f text status = TellsLocks f text status
+Tells (search what file) bytes f text status = TellsFound what bytes f text status
 Tells (generate seed size) bytes f text status = TellsReports (generate seed size) bytes f text status
 
--- what tells of the run is put on the output, alone: of a made program and of the order of mutexes
+-- what tells of the run is put on the output, alone: of a made program and of a search
 abbrev pub is_alone : TaskText → Bool
 is_alone (run file) = false
 is_alone (step file) = false
-is_alone (locks file) = true
+is_alone (search what file) = true
 is_alone (generate seed size) = true
 
 -- what is put on the output: what the guest put, or the text that tells of the run

@@ -28,10 +28,10 @@ pub enum End {
 /// What a call answers.
 #[derive(Drop)]
 pub struct Ended {
-    /// The exit status: after `Done` 66 where there is a report, or of `locks` a cycle, else 9 for a guest's fault, 8 for a
-    /// spent budget, 1 for an exit with another status than 0, and else 0; otherwise 2 for `Usage`, 3
-    /// for `Elf` and `FileTooLong`, 4 for `Rules`, 5 for `ReadFault`, 6 for `WriteFault`, 7 for
-    /// `NoMemory`.
+    /// The exit status: after `Done` 66 where there is a report, or of `audit` and `locks` where something
+    /// was found, else 9 for a guest's fault, 8 for a spent budget, 1 for an exit with another status than
+    /// 0, and else 0; otherwise 2 for `Usage`, 3 for `Elf` and `FileTooLong`, 4 for `Rules`, 5 for
+    /// `ReadFault`, 6 for `WriteFault`, 7 for `NoMemory`.
     pub status: u8,
     pub end: End,
     /// The run, where the call is done.

@@ -159,7 +159,7 @@ pub fn tool_step<F: Files, O: Sink, E: Sink>(
 
     // A call that is done keeps a run that its words ask for, each of whose reports stands for a race. The guest's output was
     // appended to one sink, and the text of each report and the last line to the other; of a made program two lines to the first,
-    // and so the text of `locks`.
+    // and so what `audit` and `locks` found.
     ensures done { result.end ≡ End.Done → IsSomeAnd result.kept (IsDone
         (call_of words.now (F.contents files.old) (F.faults files.old) (F.faults files.new) (F.failed files.new))
         (O.contents out.old) (O.contents out.new) (E.contents err.old) (E.contents err.new) result.status) }
@@ -208,7 +208,7 @@ pub fn tool<R: Threads + Wait + Sync, F: Files, O: Sink, E: Sink, G: Gate + Sync
 
     // A call that is done keeps a run that its words ask for, each of whose reports stands for a race. The guest's output was
     // appended to one sink, and the text of each report and the last line to the other; of a made program two lines to the first,
-    // and so the text of `locks`.
+    // and so what `audit` and `locks` found.
     ensures done { result.end ≡ End.Done → IsSomeAnd result.kept (IsDone
         (whole_call_of words.now (F.contents files.old) (F.faults files.old) (F.faults files.new) (F.failed files.new))
         (O.contents out.old) (O.contents out.new) (E.contents err.old) (E.contents err.new) result.status) }

@@ -1,8 +1,10 @@
 // From the words to a run and the texts that tell of it.
 ghost use Rattle.std.specs.Prelude.{◌≡◌, ◌≤◌, ℕ, List, [], Ok, Some, IfOk, IfErr, OnOk, MatchResult, map, string_bytes, nat_lt, if◌then◌else◌};
+ghost use Rattle.std.specs.List.{flat_map};
 ghost use Rattle.std.specs.Option.{option_map};
 ghost use Rattle.elf_image.specs.File.{image_of};
-ghost use Rattle.command_words.specs.Requests.{request_text, task_text, request_of, IsTask, run as asks_run, step as asks_step, locks as asks_locks, generate as asks_generate};
+ghost use Rattle.command_words.specs.Requests.{request_text, task_text, request_of, IsTask, run as asks_run, step as asks_step, search as asks_search, generate as asks_generate};
+ghost use Rattle.command_words.specs.declared.request.Search.{Search as SearchFor};
 ghost use Rattle.gen_program.specs.Program.{program};
 ghost use Rattle.symbol_lines.specs.Frames.{tables_of};
 ghost use Rattle.whole_runs.specs.Run.{IsRun};
@@ -10,16 +12,18 @@ ghost use Rattle.run_laws.specs.Faithful.{OneByOne, AtOnce};
 ghost use Rattle.thread_turns.specs.Ranges.{AreLimits};
 ghost use Rattle.report_text.specs.Status as status;
 ghost use Rattle.tsanrun_cli.specs.Ends.{Refuses, suppressed_by, named_executable, mode_of};
-ghost use Rattle.tsanrun_cli.specs.Work.{HasRun, IsTold, AreReportsTold, IsUnasked, IsUnaccepted, IsRead, AreRulesRead, call_of, whole_call_of, asking};
+ghost use Rattle.tsanrun_cli.specs.Texts.{IsFound};
+ghost use Rattle.tsanrun_cli.specs.Work.{HasRun, IsTold, AreReportsTold, IsUnasked, IsUnaccepted, IsRead, AreRulesRead, call_of, whole_call_of, asking, bytes_of};
 
 use crate::End;
 use crate::named_rules::NamedRules;
 use crate::texts::{made_texts, report_texts};
-use command_words::{Refusal, Request, Task, UsageFault, read_words};
+use command_words::{Refusal, Request, Search, Task, UsageFault, read_words};
 use elf_image::{ElfFault, Image, load};
 use gen_program::make;
 use hart_workers::run_rounds;
 use lock_order::lock_text;
+use offline_audit::pair_texts;
 use report_text::{end_status, status_of};
 use run_record::{Finished, GuestEnd, NoMemory};
 use std::alloc::Global;
@@ -65,7 +69,7 @@ pub fn work<F: Files>(alloc: Global, words: &[String], files: &mut F) -> Result<
     let request = read_request(alloc, words)?;
     match request.task {
         Task::Run { .. } => Err(End::Usage(UsageFault::Command)),
-        Task::Step { .. } | Task::Locks { .. } | Task::Generate { .. } => {
+        Task::Step { .. } | Task::Search { .. } | Task::Generate { .. } => {
             serve(alloc, &request, files)
         }
     }
@@ -86,7 +90,7 @@ pub fn whole_work<R: Threads + Wait + Sync, F: Files, G: Gate + Sync>(
     let request = read_request(alloc, words)?;
     match request.task {
         Task::Run { file } => rounds(rt, alloc, &request, file, files, gate),
-        Task::Step { .. } | Task::Locks { .. } | Task::Generate { .. } => {
+        Task::Step { .. } | Task::Search { .. } | Task::Generate { .. } => {
             serve(alloc, &request, files)
         }
     }
@@ -103,7 +107,7 @@ fn serve<F: Files>(alloc: Global, request: &Request<'_>, files: &mut F) -> Resul
 {
     match request.task {
         Task::Run { .. } => unreachable!(),
-        Task::Step { file } | Task::Locks { file } => step(alloc, request, file, files),
+        Task::Step { file } | Task::Search { file, .. } => step(alloc, request, file, files),
         Task::Generate { seed, size } => match generate(alloc, request, seed, size) {
             Ok(told) => Ok(told),
             Err(NoMemory) => Err(End::NoMemory),
@@ -283,30 +287,67 @@ fn rounds_image<R: Threads + Wait + Sync, G: Gate + Sync>(
     tell_reports(alloc, finished, &names)
 }
 
-/// The status of `locks`: 66 where there is a cycle, and else that of the run's end.
-fn lock_status(count: usize, end: GuestEnd) -> u8
+/// The status of a search: 66 where something was found, and else that of the run's end.
+fn found_status(count: usize, end: GuestEnd) -> u8
     ensures { result ≡ (if nat_lt 0 count then 66 else status.end_status end) }
 {
     if count > 0 { 66 } else { end_status(end) }
 }
 
-/// The run of an executable, with the cycles in the order in which its threads took mutexes.
-fn lock_image(
+/// How much was found, and the pieces of what tells of it.
+#[derive(Drop)]
+pub struct Found {
+    pub count: usize,
+    pub texts: Vec<Vec<u8>>,
+}
+
+/// Looks for that in a recorded run of an executable.
+fn find(
     alloc: Global,
+    search: Search,
+    image: &Image<'_>,
+    names: &Names<'_>,
+    finished: &Finished,
+) -> Result<Found, NoMemory>
+    requires { names.now ≡ tables_of image.now }
+    ensures { IfOk result (λ found. IsFound search image.now finished.now found.count (flat_map bytes_of found.texts.items)) }
+{
+    match search {
+        Search::Locks => {
+            let orders = lock_text(alloc, &finished.history)?;
+            Ok(Found {
+                count: orders.count,
+                texts: orders.texts,
+            })
+        }
+        Search::Pairs => {
+            let pairs = pair_texts(alloc, image, &finished.history, names)?;
+            Ok(Found {
+                count: pairs.count,
+                texts: pairs.texts,
+            })
+        }
+    }
+}
+
+/// The run of an executable, with what was found in it.
+fn search_image(
+    alloc: Global,
+    search: Search,
     image: &Image<'_>,
     request: &Request<'_>,
     rules: &Rules,
 ) -> Result<Told, NoMemory>
     requires limits { AreLimits request.now.limits }
-    ensures { (file : List ℕ) → (request_text request.now).task ≡ asks_locks file → IfOk result (IsTold (request_text request.now) image.now rules.now) }
+    ensures { (file : List ℕ) → (request_text request.now).task ≡ asks_search search file → IfOk result (IsTold (request_text request.now) image.now rules.now) }
 {
     let names = Names::read(alloc, image)?;
     let finished = run_named(alloc, image, &names, request, rules)?;
-    let orders = lock_text(alloc, &finished.history)?;
-    let status = lock_status(orders.count, finished.last.end);
+    let found = find(alloc, search, image, &names, &finished)?;
+    let status = found_status(found.count, finished.last.end);
     Ok(Told {
         finished,
-        texts: orders.texts,
+        texts: found.texts,
         alone: true,
         status,
     })
@@ -321,10 +362,10 @@ fn told_image(
 ) -> Result<Told, NoMemory>
     requires limits { AreLimits request.now.limits }
     ensures reports { (file : List ℕ) → (request_text request.now).task ≡ asks_step file → IfOk result (IsTold (request_text request.now) image.now rules.now) }
-    ensures orders { (file : List ℕ) → (request_text request.now).task ≡ asks_locks file → IfOk result (IsTold (request_text request.now) image.now rules.now) }
+    ensures found { (what : SearchFor) (file : List ℕ) → (request_text request.now).task ≡ asks_search what file → IfOk result (IsTold (request_text request.now) image.now rules.now) }
 {
     match request.task {
-        Task::Locks { .. } => lock_image(alloc, image, request, rules),
+        Task::Search { search, .. } => search_image(alloc, search, image, request, rules),
         Task::Run { .. } | Task::Step { .. } | Task::Generate { .. } => {
             step_image(alloc, image, request, rules)
         }

@@ -1,7 +1,8 @@
-use Rattle.std.proofs.Common.{◌≡◌, List, length, refl, Some, ◌∙◌}
-use Rattle.std.specs.Prelude.{slice_get}
-use Rattle.std.proofs.lemmas.Option.{slice_get_read}
+use Rattle.std.proofs.Common.{◌≤◌, ℕ, List, length, ap, sym, subst, arith}
+use Rattle.run_record.specs.declared.event.Event.{Event}
 use Rattle.run_record.specs.declared.entry.Entry.{Entry}
+use Rattle.run_record.specs.Walk.{AreEventsOf}
+use Rattle.offline_audit.proofs.WalkedEntries.{entry_walked, as_many}
 use Rattle.offline_audit.proofs.AccessLaw.{none_of, entry_more, all_of}
 use Rattle.offline_audit.proofs.access.in_order.Goals as goal
 
@@ -12,14 +13,16 @@ pub loop-n-preserved : goal.loop-n-preserved
 loop-n-preserved c =
     let entries : List Entry = c.args.history.now.entries in
     let n = c.loop-n.n in
-    let e : Entry = c.entry-item.result in
-    let l = rw (c.deref-entry-items.ensures.value ∙ c.in_ok-entries.ensures) at c.loop-n-test.true in
-    let is = rw (c.deref-entry-items.ensures.value ∙ c.in_ok-entries.ensures) at c.entry-item.is in
-    let listed : slice_get entries n ≡ Some e = slice_get_read entries (length entries) n e refl l is in
-    entry_more entries n e c.loop-n.made.items c.add_accesses.new.made.items listed c.loop-n.invariant c.in_ok-add_accesses.ensures
+    let are = subst (AreEventsOf entries) (sym c.deref-entry-items.ensures.value) c.in_ok-walk.ensures.same in
+    let it = entry_walked entries c.deref-entry-items.result.now are n _ c.loop-n-test.true in
+    entry_more entries n it.entry c.loop-n.made.items c.add_accesses.new.made.items it.listed c.loop-n.invariant
+    (c.in_ok-add_accesses.ensures it.entry (ap (λ (p : ℕ × List Event). p.0) it.same) (ap (λ (p : ℕ × List Event). p.1) it.same))
 
 pub returns : goal.returns
 returns c =
     let entries : List Entry = c.args.history.now.entries in
-    let full = rw (c.deref-entry-items.ensures.value ∙ c.in_ok-entries.ensures) at c.loop-n-test.false in
+    let are = subst (AreEventsOf entries) (sym c.deref-entry-items.ensures.value) c.in_ok-walk.ensures.same in
+    let many = as_many entries c.deref-entry-items.result.now are in
+    let past = c.loop-n-test.false in
+    let full : length entries ≤ c.loop-n.n = omega arith in
     all_of entries c.loop-n.n c.loop-n.made.items full c.loop-n.invariant

@@ -8,5 +8,5 @@ use Rattle.offline_audit.proofs.order.note_entry.Given as goal
 abbrev pub invariant-loop-event : goal.invariant-loop-event
 invariant-loop-event l =
     (l.known.count ≡ l.initial.known.count + l.event-index)
-    × ((h : ℕ → Item) (number : ℕ → ℕ) (n : ℕ) → AreNumbers h number → Makes h n l.entry.tid l.entry.events →
+    × ((h : ℕ → Item) (number : ℕ → ℕ) (n : ℕ) → AreNumbers h number → Makes h n l.tid l.events →
     Stands h number n l.initial.known → Stands h number (n + l.event-index) l.known)

@@ -9,6 +9,6 @@ use Rattle.offline_audit.proofs.order.note_without.Given as goal
 abbrev pub invariant-loop-event : goal.invariant-loop-event
 invariant-loop-event l =
     (l.known.count ≡ l.initial.known.count + l.event-index)
-    × ((h : ℕ → Item) (number : ℕ → ℕ) (n : ℕ) → AreNumbers h number → Makes h n l.entry.tid l.entry.events → AreAwaited h n l.initial.left →
+    × ((h : ℕ → Item) (number : ℕ → ℕ) (n : ℕ) → AreNumbers h number → Makes h n l.tid l.events → AreAwaited h n l.initial.left →
     Stands (without_mutexes h) number n l.initial.known →
     Stands (without_mutexes h) number (n + l.event-index) l.known × AreAwaited h (n + l.event-index) l.left)

@@ -1,4 +1,4 @@
-use Rattle.std.proofs.Common.{ap, length, List}
+use Rattle.std.proofs.Common.{List, length, ap}
 use Rattle.report_text.specs.declared.pair.Pair.{Pair}
 use Rattle.offline_audit.proofs.text.pair_texts.Goals as goal
 

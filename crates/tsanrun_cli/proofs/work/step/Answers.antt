@@ -13,7 +13,7 @@ returns-in-Ok-clause-run g c =
     let runs = which request.task c.args.file.now c.requires.names in
     let told : IsTold request c.in_ok-image.image c.in_ok-rules.rules c.in-Ok.told = elim (which_steps request.task c.args.file.now runs c.requires.mode) [
       | inl e ↦ c.in-Ok.ensures.reports c.args.file.now e
-      | inr e ↦ c.in-Ok.ensures.orders c.args.file.now e
+      | inr e ↦ c.in-Ok.ensures.found e.0 c.args.file.now e.1
     ] in
     file_read request _ _ _ _ c.args.file.now c.in_ok-bytes.bytes.items c.as_slice.result.now c.in_ok-image.image _ _ runs c.as_slice.ensures.value
     c.in_ok-bytes.ensures.read.0 c.in_ok-image.ensures.image c.in_ok-image.ensures.accepted

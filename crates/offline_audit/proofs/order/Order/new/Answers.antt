@@ -1,13 +1,14 @@
-use Rattle.std.proofs.Common.{◌≡◌, ℕ, suc, ◌+◌, ◌<◌, ◌^◌, length, take, List, arith, refl, sym, ap, ◌∙◌, subst, Some}
-use Rattle.std.specs.Prelude.{slice_get}
+use Rattle.std.proofs.Common.{◌≡◌, ℕ, suc, ◌+◌, ◌<◌, ◌≤◌, ◌^◌, length, take, List, [], ◌∷◌, ◌++◌, arith, sym, ap, subst}
 use Rattle.std.proofs.lemmas.List.{take_all}
-use Rattle.std.proofs.lemmas.Option.{slice_get_read}
 use Rattle.run_record.specs.declared.entry.Entry.{Entry}
+use Rattle.run_record.specs.declared.event.Event.{Event}
+use Rattle.run_record.specs.Walk.{AreEventsOf}
 use Rattle.run_laws.specs.Moments.{moments, items}
 use Rattle.offline_audit.specs.declared.order.Row.{Row}
 use Rattle.offline_audit.specs.Known.{Stands}
-use Rattle.offline_audit.specs.Orders.{events_before, start_of, AreRows}
+use Rattle.offline_audit.specs.Orders.{Makes, events_before, start_of, AreRows}
 use Rattle.offline_audit.proofs.MomentPlaces.{nothing_stands, makes, start_stands, next_start, rows_more, are_numbers, within}
+use Rattle.offline_audit.proofs.WalkedEntries.{entry_walked, as_many, entry_short}
 use Rattle.offline_audit.proofs.order.Order.new.Goals as goal
 
 pub loop-entry-init : goal.loop-entry-init
@@ -22,24 +23,33 @@ loop-entry-preserved c =
     let entries : List Entry = c.args.history.now.entries in
     let h = items (moments entries) in
     let k = c.loop-entry.entry-index in
-    let e : Entry = c.entry-item.result in
     let known = c.loop-entry.known in
-    let l = rw (c.deref-entry-items.ensures.value ∙ c.in_ok-entries.ensures) at c.loop-entry-test.true in
-    let is = rw (c.deref-entry-items.ensures.value ∙ c.in_ok-entries.ensures) at c.entry-item.is in
-    let listed : slice_get entries k ≡ Some e = slice_get_read entries (length entries) k e refl l is in
+    let walk = c.deref-entry-items.result.now in
+    let are = subst (AreEventsOf entries) (sym c.deref-entry-items.ensures.value) c.in_ok-walk.ensures.same in
+    let it = entry_walked entries walk are k _ c.loop-entry-test.true in
+    let e : Entry = it.entry in
+    let listed = it.listed in
+    let many_walked = as_many entries walk are in
+    let w = c.loop-entry-test.true in
+    let l : k < length entries = omega arith in
     let at = start_stands entries k e l listed h (λ n t v q. q) known c.loop-entry.invariant.0 in
-    let after = c.in_ok-note_entry.ensures.stands h (events_before h) (start_of entries k e) (are_numbers h) (makes entries k e l listed) at in
+    let after = c.in_ok-note_entry.ensures.stands h (events_before h) (start_of entries k e) (are_numbers h)
+    (subst (λ (p : ℕ × List Event). Makes h (start_of entries k e) p.0 p.1) it.same (makes entries k e l listed)) at in
     let next : k + 1 ≡ suc k = omega arith in
     let place = next_start entries k e l listed in
-    let small : length e.events < 2 ^ 32 = subst (λ (d : Entry). length d.events < 2 ^ 32) (sym is) (c.requires.events k e l) in
+    let small : length e.events < 2 ^ 32 = entry_short entries walk are k e listed in
+    let events = ap (λ (p : ℕ × List Event). p.1) it.same in
+    let many_events = ap (λ (es : List Event). length es) events in
     let bound = c.loop-entry.invariant.2 in
-    let many = c.requires.count in
+    let many = c.in_ok-walk.ensures.few.count in
     let few : known.count + length e.events < 2 ^ 64 = omega arith in (
       subst (λ (i : ℕ). Stands h (events_before h) (length (moments (take i entries))) c.note_entry.new.known) (sym next)
-          (subst (λ (n : ℕ). Stands h (events_before h) n c.note_entry.new.known) (sym place) after),
+          (subst (λ (n : ℕ). Stands h (events_before h) n c.note_entry.new.known) (sym place)
+          (subst (λ (es : List Event). Stands h (events_before h) (start_of entries k e + length es) c.note_entry.new.known) (sym events) after)),
       subst (λ (i : ℕ). AreRows (events_before h) entries i c.push.new.self.items) (sym next)
           (subst (λ (rows : List Row). AreRows (events_before h) entries (suc k) rows) (sym c.in_ok-push.ensures.items)
-          (rows_more entries k e l listed known c.loop-entry.rows.items few at.count c.loop-entry.invariant.1)),
+          (subst (λ (p : ℕ × List Event). AreRows (events_before h) entries (suc k) (c.loop-entry.rows.items ++ record { tid = p.0; first = known.count } ∷ [])) it.same
+          (rows_more entries k e l listed known c.loop-entry.rows.items few at.count c.loop-entry.invariant.1))),
       let a = c.in_ok-note_entry.ensures.count in omega arith,
     )
 
@@ -47,8 +57,10 @@ pub returns : goal.returns
 returns c =
     let entries : List Entry = c.args.history.now.entries in
     let h = items (moments entries) in
-    let full = rw (c.deref-entry-items.ensures.value ∙ c.in_ok-entries.ensures) at c.loop-entry-test.false in
-    let most = rw (c.deref-entry-items.ensures.value ∙ c.in_ok-entries.ensures) at c.loop-entry.auto.entry-index-end in
+    let many = as_many entries c.deref-entry-items.result.now (subst (AreEventsOf entries) (sym c.deref-entry-items.ensures.value) c.in_ok-walk.ensures.same) in
+    let past = c.loop-entry-test.false in
+    let most = c.loop-entry.auto.entry-index-end in
+    let full : length entries ≤ c.loop-entry.entry-index = omega arith in
     let same : c.loop-entry.entry-index ≡ length entries = omega arith in
     let all : take c.loop-entry.entry-index entries ≡ entries = take_all c.loop-entry.entry-index entries full in
     let stands = subst (λ (es : List Entry). Stands h (events_before h) (length (moments es)) c.loop-entry.known) all c.loop-entry.invariant.0 in
