@@ -1,5 +1,5 @@
 // What a thread heard of the others.
-ghost use Rattle.std.specs.Prelude.{◌≡◌, ◌==◌, ℕ, if◌then◌else◌, max, OnOk};
+ghost use Rattle.std.specs.Prelude.{◌≡◌, ◌==◌, ℕ, nat_lt, if◌then◌else◌, max, OnOk};
 ghost use Rattle.offline_audit.specs.Heard.{known_of, latest, steps_after, steps_of};
 
 use crate::clock::{Clock, raise};
@@ -37,11 +37,24 @@ fn extend(steps: &mut Items<Step>, at: u64, known: u64) -> Result<(), NoMemory>
     Ok(())
 }
 
+/// Whether so much is more than the thread heard of the other one.
+fn is_news(heard: &Heard, tid: u32, known: u64) -> bool
+    ensures { result ≡ nat_lt (latest (steps_of heard.now tid)) known }
+{
+    match heard.get(&tid) {
+        Some(steps) => last_known(steps.as_slice()) < known,
+        None => 0 < known,
+    }
+}
+
 /// By the event of the number `at` a thread hears of another one's events.
 fn hear(alloc: Global, heard: &mut Heard, at: u64, tid: u32, known: u64) -> Result<(), NoMemory>
     ensures { OnOk result ((u : ℕ) → steps_of heard.new u
         ≡ (if u == tid then steps_after at known (steps_of heard.old tid) else steps_of heard.old u)) }
 {
+    if !is_news(heard, tid, known) {
+        return Ok(());
+    }
     let mut steps = match heard.remove(&tid) {
         Some(steps) => steps,
         None => Items::new(alloc),

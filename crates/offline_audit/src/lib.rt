@@ -23,6 +23,8 @@ mod laws;
 mod mutex;
 mod order;
 mod pair;
+#[cfg(test)]
+mod race_tests;
 mod races;
 mod sweep;
 #[cfg(test)]

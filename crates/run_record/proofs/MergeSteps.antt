@@ -7,7 +7,6 @@ use Rattle.std.proofs.lemmas.List.Elements.{All-cons, All-head, All-tail, All-ap
 use Rattle.std.proofs.lemmas.List.Kept.{AllPairs-cons}
 use Rattle.std.proofs.lemmas.List.Sorted.{IsPermutation-trans, IsPermutation-append_left, IsPermutation-append_right, IsPermutation-append_comm, All-permutation}
 use Rattle.run_record.specs.declared.entry.Entry.{Entry}
-use Rattle.run_record.specs.declared.flat.Head.{Head}
 use Rattle.run_record.specs.Flat.{head_of}
 use Rattle.run_record.specs.Order.{AreOrdered, AreDistinct, entries_in}
 use Rattle.run_record.specs.Merging.{IsUpto}

@@ -1,6 +1,5 @@
 // The logs of several threads as one history.
-ghost use Rattle.std.specs.Prelude.{◌≡◌, ◌++◌, ◌∷◌, [], IfOk, OnOk, IsPermutation};
-ghost use Rattle.run_record.specs.declared.entry.DeskNote.TheVariants as DeskNote;
+ghost use Rattle.std.specs.Prelude.{◌≡◌, ◌++◌, ◌∷◌, [], IfOk, OnOk, All, IsPermutation};
 ghost use Rattle.run_record.specs.Flat.{entry_of};
 ghost use Rattle.run_record.specs.Order.{AreOrdered, AreDistinct, entries_in};
 
@@ -38,7 +37,7 @@ fn joined(alloc: Global, entries: &[Entry]) -> Result<Entries, NoMemory>
 #[cfg(test)]
 mod tests {
     use super::*;
-    use crate::{Check, DeskNote, Event, Head};
+    use crate::{Check, DeskNote, Event, Head, Label};
     use std::test::Fail;
 
     const CHECK: Check = Check {
@@ -50,17 +49,25 @@ mod tests {
         stored: Some((2, 6)),
     };
 
-    // Its one check stored another word than its own.
+    // The check, where it stored that word.
+    fn storing(word: u64) -> Check {
+        Check {
+            stored: Some((2, word)),
+            ..CHECK
+        }
+    }
+
     fn put(
         log: &mut Entries,
         stamp: u64,
         tid: u32,
+        note: DeskNote,
         event: Event,
         check: Check,
     ) -> Result<(), NoMemory>
         ensures { OnOk result (log.new ≡ log.old ++ entry_of
             (record { round = 0; era = 0; stamp = stamp; tid = tid; steps = 1 })
-            DeskNote.Nothing (event ∷ []) (check ∷ []) ∷ []) }
+            note (event ∷ []) (check ∷ []) ∷ []) }
     {
         let head = Head {
             round: 0,
@@ -69,131 +76,96 @@ mod tests {
             tid,
             steps: 1,
         };
-        log.push(head, DeskNote::Nothing, &[event], &[check])
+        log.push(head, note, &[event], &[check])
     }
 
+    const LABEL: Label = Label {
+        sid: 1,
+        epoch: 2,
+        era: 0,
+    };
+
     // Two entries have the stamp 2, and one entry belongs between two of another log.
-    #[test]
-    fn three_logs(rt: HostRuntime) -> Result<(), Fail> {
-        let alloc = rt.alloc();
+    fn logs(alloc: Global) -> Result<Vec<Entries>, NoMemory>
+        ensures ordered { IfOk result (λ logs. All AreOrdered logs.items) }
+        ensures distinct { IfOk result (λ logs. AreDistinct (entries_in logs.items)) }
+    {
+        let nothing = DeskNote::Nothing;
+        let attach = DeskNote::Attach(LABEL);
         let mut main = Entries::new(alloc);
-        put(&mut main, 1, 0, Event::Begin, CHECK)?;
-        put(&mut main, 3, 0, Event::End, CHECK)?;
+        put(&mut main, 1, 0, nothing, Event::Begin, storing(6))?;
+        put(&mut main, 3, 0, nothing, Event::End, storing(7))?;
         let mut first = Entries::new(alloc);
-        put(&mut first, 2, 1, Event::Leave, CHECK)?;
+        put(&mut first, 2, 1, attach, Event::Leave, storing(8))?;
         let mut second = Entries::new(alloc);
-        put(&mut second, 2, 2, Event::Begin, CHECK)?;
-        let merged = merge(alloc, vec![in alloc; second, main, first]?)?;
+        put(&mut second, 2, 2, nothing, Event::Begin, storing(9))?;
+        Ok(vec![in alloc; second, main, first]?)
+    }
+
+    // Stamp, thread, event, note and check of an entry.
+    type Seen = (u64, u32, Option<Event>, DeskNote, Option<Check>);
+
+    fn seen(alloc: Global, entries: &Entries) -> Result<Vec<Seen>, NoMemory> {
         let mut seen = Vec::new(alloc);
-        for entry in merged.entries.to_vec(alloc)?.as_slice() {
+        for entry in entries.to_vec(alloc)?.as_slice() {
             seen.push((
                 entry.stamp,
                 entry.tid,
                 entry.events.as_slice().first().copied(),
+                entry.note,
+                entry.checks.as_slice().first().copied(),
             ))?;
-        }
-        let want = [
-            (1, 0, Some(Event::Begin)),
-            (2, 1, Some(Event::Leave)),
-            (2, 2, Some(Event::Begin)),
-            (3, 0, Some(Event::End)),
-        ];
-        assert_eq!(rt; seen.as_slice(), want.as_slice());
-        Ok(())
-    }
-
-    // What the entries have, each with its stamp, its thread, its first event, and the word that its check stored.
-    fn seen(
-        alloc: Global,
-        entries: &Entries,
-    ) -> Result<Vec<(u64, u32, Option<Event>, Option<u64>)>, NoMemory> {
-        let mut seen = Vec::new(alloc);
-        for entry in entries.to_vec(alloc)?.as_slice() {
-            let stored = match entry.checks.as_slice().first() {
-                Some(check) => check.stored.map(|stored| stored.1),
-                None => None,
-            };
-            let event = entry.events.as_slice().first().copied();
-            seen.push((entry.stamp, entry.tid, event, stored))?;
         }
         Ok(seen)
     }
 
-    // Behind an entry that is there, two entries with the stamp 2; the words that checks stored stay with theirs.
-    #[test]
-    fn logs_are_appended_in_order(rt: HostRuntime) -> Result<(), Fail> {
-        let alloc = rt.alloc();
-        let own = Check {
-            stored: Some((2, 5)),
-            ..CHECK
-        };
-        let mut entries = Entries::new(alloc);
-        put(&mut entries, 9, 0, Event::Begin, CHECK)?;
-        let mut main = Entries::new(alloc);
-        put(&mut main, 1, 0, Event::Begin, own)?;
-        put(&mut main, 3, 0, Event::End, CHECK)?;
-        let mut first = Entries::new(alloc);
-        put(&mut first, 2, 1, Event::Leave, own)?;
-        let mut second = Entries::new(alloc);
-        put(&mut second, 2, 2, Event::Begin, CHECK)?;
-        put(&mut second, 4, 2, Event::End, own)?;
-        entries.append_merged(alloc, vec![in alloc; second, main, first]?.as_slice())?;
-        let want = [
-            (9, 0, Some(Event::Begin), Some(6)),
-            (1, 0, Some(Event::Begin), Some(5)),
-            (2, 1, Some(Event::Leave), Some(5)),
-            (2, 2, Some(Event::Begin), Some(6)),
-            (3, 0, Some(Event::End), Some(6)),
-            (4, 2, Some(Event::End), Some(5)),
-        ];
-        assert_eq!(rt; seen(alloc, &entries)?.as_slice(), want.as_slice());
-        assert_eq!(rt;
-            entries.head(3).map(|head| (head.stamp, head.tid)),
-            Some((2, 2))
-        );
-        assert!(rt; entries.head(6).is_none());
-        Ok(())
+    fn want() -> [Seen; 4] {
+        let nothing = DeskNote::Nothing;
+        let attach = DeskNote::Attach(LABEL);
+        [
+            (1, 0, Some(Event::Begin), nothing, Some(storing(6))),
+            (2, 1, Some(Event::Leave), attach, Some(storing(8))),
+            (2, 2, Some(Event::Begin), nothing, Some(storing(9))),
+            (3, 0, Some(Event::End), nothing, Some(storing(7))),
+        ]
     }
 
     #[test]
-    fn the_first_entries_stay(rt: HostRuntime) -> Result<(), Fail> {
+    fn three_logs(rt: HostRuntime) -> Result<(), Fail> {
         let alloc = rt.alloc();
-        let mut entries = Entries::new(alloc);
-        put(&mut entries, 1, 0, Event::Begin, CHECK)?;
-        put(&mut entries, 2, 1, Event::Leave, CHECK)?;
-        put(&mut entries, 3, 0, Event::End, CHECK)?;
-        entries.truncate(2);
-        let want = [
-            (1, 0, Some(Event::Begin), Some(6)),
-            (2, 1, Some(Event::Leave), Some(6)),
-        ];
-        assert_eq!(rt; seen(alloc, &entries)?.as_slice(), want.as_slice());
+        let merged = merge(alloc, logs(alloc)?)?;
+        assert_eq!(rt; seen(alloc, &merged.entries)?.as_slice(), want().as_slice());
         Ok(())
     }
 
+    // Twice, and the second time is cut off again.
     #[test]
-    fn events_are_walked(rt: HostRuntime) -> Result<(), Fail> {
+    fn appended(rt: HostRuntime) -> Result<(), Fail> {
         let alloc = rt.alloc();
-        let mut entries = Entries::new(alloc);
-        put(&mut entries, 1, 3, Event::Begin, CHECK)?;
-        let head = Head {
-            round: 0,
-            era: 0,
-            stamp: 2,
-            tid: 4,
-            steps: 1,
-        };
-        entries.push(head, DeskNote::Nothing, &[Event::Leave, Event::End], &[])?;
-        let walk = entries.walk(alloc)?;
-        assert_eq!(rt; walk.len(), 2);
-        assert_eq!(rt;
-            (walk[0].tid, walk[0].events),
-            (3, [Event::Begin].as_slice())
-        );
-        assert_eq!(rt;
-            (walk[1].tid, walk[1].events),
-            (4, [Event::Leave, Event::End].as_slice())
-        );
+        let three = logs(alloc)?;
+        let mut history = Entries::new(alloc);
+        history.append_merged(alloc, &three)?;
+        assert_eq!(rt; seen(alloc, &history)?.as_slice(), want().as_slice());
+        history.append_merged(alloc, &three)?;
+        let mut walked = Vec::new(alloc);
+        for entry in history.walk(alloc)?.as_slice() {
+            walked.push((entry.tid, entry.events.first().copied()))?;
+        }
+        let twice = [
+            (0, Some(Event::Begin)),
+            (1, Some(Event::Leave)),
+            (2, Some(Event::Begin)),
+            (0, Some(Event::End)),
+            (0, Some(Event::Begin)),
+            (1, Some(Event::Leave)),
+            (2, Some(Event::Begin)),
+            (0, Some(Event::End)),
+        ];
+        assert_eq!(rt; walked.as_slice(), twice.as_slice());
+        assert_eq!(rt; history.head(5).is_some(), true);
+        assert_eq!(rt; history.head(8).is_some(), false);
+        history.truncate(4);
+        assert_eq!(rt; seen(alloc, &history)?.as_slice(), want().as_slice());
         Ok(())
     }
 
