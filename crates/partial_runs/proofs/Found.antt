@@ -1,5 +1,5 @@
 -- What is reported of the first rounds begins what is reported of all.
-use Rattle.std.proofs.Common.{◌≡◌, ℕ, suc, ◌+◌, ◌<◌, ◌≤◌, Bool, true, false, if◌then◌else◌, Option, Some, List, [], ◌∷◌, ◌++◌, slice_get, length, append_assoc, refl, sym, ap, subst, inl, inr, ◌∙◌, arith}
+use Rattle.std.proofs.Common.{◌≡◌, ℕ, suc, ◌+◌, ◌≤◌, Bool, true, false, if◌then◌else◌, Option, Some, List, [], ◌∷◌, ◌++◌, slice_get, length, refl, sym, ap, subst, inl, inr, ◌∙◌, arith}
 use Rattle.std.specs.Prelude.{fold}
 use Rattle.std.specs.List.{list_any}
 use Rattle.std.proofs.lemmas.Bool.{cases_order, cases_eq}
@@ -11,7 +11,7 @@ use Rattle.run_record.specs.declared.entry.Entry.{Entry}
 use Rattle.run_record.specs.declared.limits.Limits.{Limits}
 use Rattle.run_record.specs.declared.report.Report.{Report}
 use Rattle.run_record.specs.declared.report.Side.{Side}
-use Rattle.run_laws.specs.Moments.{Does, Moment, moment_at, moments, moments_from, items}
+use Rattle.run_laws.specs.Moments.{Does, Moment, moment_at, moments, moments_from}
 use Rattle.run_laws.specs.Accesses.{Access}
 use Rattle.run_laws.specs.Candidates.{loaded_by, IsCandidate}
 use Rattle.run_laws.specs.Reports.{MakesAccess, IsReport, Finds, Start, Quiet, Race, Kept, is_equal, kept_after, kept_of, AreReports}

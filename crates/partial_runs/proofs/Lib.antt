@@ -2,6 +2,6 @@ pub mod Lists
 pub mod Machine
 pub mod Output
 pub mod Found
-pub mod Starts
-pub mod Partials
-pub mod Puts
+pub mod FirstRounds
+pub mod PartialLaw
+pub mod PutLaw

@@ -1,4 +1,4 @@
-use Rattle.partial_runs.proofs.Partials.{nothing_is_partial}
+use Rattle.partial_runs.proofs.PartialLaw.{nothing_is_partial}
 use Rattle.partial_runs.proofs.partials.no_rounds_law.Goals as goal
 
 pub returns : goal.returns

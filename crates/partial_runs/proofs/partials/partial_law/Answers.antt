@@ -1,4 +1,4 @@
-use Rattle.partial_runs.proofs.Partials.{begins}
+use Rattle.partial_runs.proofs.PartialLaw.{begins}
 use Rattle.partial_runs.proofs.partials.partial_law.Goals as goal
 
 pub returns : goal.returns

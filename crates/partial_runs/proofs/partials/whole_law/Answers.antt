@@ -1,4 +1,4 @@
-use Rattle.partial_runs.proofs.Partials.{whole_is_partial}
+use Rattle.partial_runs.proofs.PartialLaw.{whole_is_partial}
 use Rattle.partial_runs.proofs.partials.whole_law.Goals as goal
 
 pub returns : goal.returns

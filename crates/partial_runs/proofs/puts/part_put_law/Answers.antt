@@ -1,4 +1,4 @@
-use Rattle.partial_runs.proofs.Puts.{part_put}
+use Rattle.partial_runs.proofs.PutLaw.{part_put}
 use Rattle.partial_runs.proofs.puts.part_put_law.Goals as goal
 
 pub returns : goal.returns

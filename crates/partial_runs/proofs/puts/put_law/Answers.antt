@@ -1,4 +1,4 @@
-use Rattle.partial_runs.proofs.Puts.{appends_nothing, appends_twice, appends_then_part, part_of_all}
+use Rattle.partial_runs.proofs.PutLaw.{appends_nothing, appends_twice, appends_then_part, part_of_all}
 use Rattle.partial_runs.proofs.puts.put_law.Goals as goal
 
 pub returns-clause-both : goal.returns-clause-both

@@ -1,4 +1,4 @@
-use Rattle.partial_runs.proofs.Starts.{start_of, start_of_whole}
+use Rattle.partial_runs.proofs.FirstRounds.{start_of, start_of_whole}
 use Rattle.partial_runs.proofs.starts.lawful_start_law.Goals as goal
 
 pub returns-clause-whole : goal.returns-clause-whole

@@ -1,4 +1,4 @@
-use Rattle.partial_runs.proofs.Starts.{in_order, begins_whole}
+use Rattle.partial_runs.proofs.FirstRounds.{in_order, begins_whole}
 use Rattle.partial_runs.proofs.starts.start_law.Goals as goal
 
 pub returns-clause-in_order : goal.returns-clause-in_order

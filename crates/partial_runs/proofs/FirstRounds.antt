@@ -297,6 +297,7 @@ module _ {S : Type 0} (limits : Limits) (bare : Bare S) (granule_of : ℕ → Op
 
     -- a whole run goes on after each lawful start
     pub begins_whole : IsLawful OneByOne limits plan bare granule_of others → GoesOn entries others
+    unfolding start_of_whole
     begins_whole whole =
         let yours = start_of_whole OneByOne others whole in
         let q = whole.rounds.progress in

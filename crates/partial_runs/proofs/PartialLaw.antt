@@ -3,7 +3,6 @@ use Rattle.std.proofs.Common.{◌≡◌, ℕ, ◌≤◌, Bool, Option, List, [],
 use Rattle.run_record.specs.declared.entry.Entry.{Entry}
 use Rattle.run_record.specs.declared.limits.Limits.{Limits}
 use Rattle.run_record.specs.declared.plan.Turn.{Turn}
-use Rattle.run_record.specs.declared.report.Report.{Report}
 use Rattle.run_record.specs.declared.finished.Finished.{Finished}
 use Rattle.elf_image.specs.File.{granule_of, granule_address}
 use Rattle.run_laws.specs.Moments.{moments}
@@ -20,7 +19,7 @@ use Rattle.partial_runs.specs.Partials.{IsPartial, IsBeginning, all_rounds}
 use Rattle.partial_runs.proofs.Machine.{leave_labels}
 use Rattle.partial_runs.proofs.Output.{output_grows}
 use Rattle.partial_runs.proofs.Found.{first_reports}
-use Rattle.partial_runs.proofs.Starts.{no_entries, start_of_whole, begins_whole}
+use Rattle.partial_runs.proofs.FirstRounds.{no_entries, start_of_whole, begins_whole}
 
 module _ (file : List ℕ) (limits : Limits) (plan : List Turn) (meets : Option (List ℕ) → Option (List ℕ) → Bool) where
   pub whole_is_partial : (mode : Mode) (f : Finished) → IsRun mode file limits plan meets f → IsPartial mode file limits plan meets (all_rounds f)

@@ -1,8 +1,6 @@
 -- What is put of a partial run is the first of what the whole run puts.
 use Rattle.std.proofs.Common.{◌≡◌, ℕ, ◌≤◌, Bool, Option, Some, None, List, [], ◌∷◌, ◌++◌, append_assoc, take, refl, sym, ap, subst, ◌∙◌, inl, inr}
-use Rattle.std.specs.Prelude.{Result, Ok, Err}
 use Rattle.std.specs.Option.{option_map}
-use Rattle.std.specs.List.{flat_map}
 use Rattle.std.proofs.lemmas.List.{append-nil}
 use Rattle.std.proofs.lemmas.Grind.{flat_map-append}
 use Rattle.run_record.specs.declared.limits.Limits.{Limits}
@@ -19,7 +17,7 @@ use Rattle.partial_runs.specs.Starts.{BeginsWith}
 use Rattle.partial_runs.specs.Partials.{IsPartial, IsBeginning}
 use Rattle.partial_runs.specs.Puts.{Sinks, texts_of, run_text, IsTextOf, IsPartPut}
 use Rattle.partial_runs.proofs.Lists.{begins_twice, begins_push, first_of_longer}
-use Rattle.partial_runs.proofs.Partials.{same_run, begins}
+use Rattle.partial_runs.proofs.PartialLaw.{same_run, begins}
 
 -- ---- pieces, one after another
 
@@ -80,5 +78,5 @@ module _ (file : List ℕ) (limits : Limits) (plan : List Turn) (meets : Option 
       → AppendsPart before.out now.out f.output × AppendsPart before.err now.err (run_text frame_of f)
   part_put before now put = (
     part_of_longer before.out now.out p.output f.output beginning.output put.out,
-    part_of_longer before.err now.err put.text (run_text frame_of f) (text_begins put.text put.text_of) put.err
+    part_of_longer before.err now.err put.text (run_text frame_of f) (text_begins put.text put.text_of) put.err,
   )
