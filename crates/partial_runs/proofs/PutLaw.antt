@@ -1,5 +1,6 @@
 -- What is put of a partial run is the first of what the whole run puts.
-use Rattle.std.proofs.Common.{◌≡◌, ℕ, ◌≤◌, Bool, Option, Some, None, List, [], ◌∷◌, ◌++◌, append_assoc, take, refl, sym, ap, subst, ◌∙◌, inl, inr}
+use Rattle.std.proofs.Common.{◌≡◌, ℕ, suc, ◌+◌, ◌-◌, ◌^◌, ◌≤◌, min, Bool, Option, Some, None, Result, Ok, Err, List, [], ◌∷◌, ◌++◌, append_assoc, take, refl, sym, ap, subst, ◌∙◌, arith, inl, inr}
+use Rattle.std.proofs.Math.Nat.{min-le_left, min-le_right, le-min}
 use Rattle.std.specs.Option.{option_map}
 use Rattle.std.proofs.lemmas.List.{append-nil}
 use Rattle.std.proofs.lemmas.Grind.{flat_map-append}
@@ -7,17 +8,19 @@ use Rattle.run_record.specs.declared.limits.Limits.{Limits}
 use Rattle.run_record.specs.declared.plan.Turn.{Turn}
 use Rattle.run_record.specs.declared.report.Report.{Report}
 use Rattle.run_record.specs.declared.finished.Finished.{Finished}
-use Rattle.run_laws.specs.Faithful.{OneByOne}
+use Rattle.run_laws.specs.Faithful.{Mode, OneByOne}
 use Rattle.symbol_lines.specs.FrameTexts.{FrameText}
 use Rattle.report_text.specs.Texts.{report_text, summary_of}
-use Rattle.tool_ports.specs.Ports.{Appends, AppendsPart}
+use Rattle.tool_ports.specs.Ports.{Rose, Appends, AppendsPart}
 use Rattle.whole_runs.specs.Run.{IsRun}
 use Rattle.partial_runs.specs.declared.partial.Partial.{Partial}
-use Rattle.partial_runs.specs.Starts.{BeginsWith}
-use Rattle.partial_runs.specs.Partials.{IsPartial, IsBeginning}
-use Rattle.partial_runs.specs.Puts.{Sinks, texts_of, run_text, IsTextOf, IsPartPut}
+use Rattle.partial_runs.specs.declared.partial.RunFault.{RunFault}
+use Rattle.partial_runs.specs.declared.partial.RunFault.TheVariants.{Write, NoMemory}
+use Rattle.partial_runs.specs.Starts.{BeginsWith, GoesOnByRound}
+use Rattle.partial_runs.specs.Partials.{IsPartial, IsBeginning, all_rounds}
+use Rattle.partial_runs.specs.Puts.{Sinks, texts_of, run_text, IsPut, IsPutSoFar, IsTextOf, IsPartPut, IsCutShort, IsStopped, LeavesRun}
 use Rattle.partial_runs.proofs.Lists.{begins_twice, begins_push, first_of_longer}
-use Rattle.partial_runs.proofs.PartialLaw.{same_run, begins}
+use Rattle.partial_runs.proofs.PartialLaw.{whole_is_partial, same_run, begins, round_reports}
 
 -- ---- pieces, one after another
 
@@ -35,7 +38,7 @@ appends_twice old mid new x y a b = b ∙ (ap (option_map (λ (o : List ℕ). o 
 -- all of the first bytes is the first bytes of all
 whole_first : (xs ys : List ℕ) (n : ℕ) → (m : ℕ) × (take m (xs ++ ys) ≡ xs ++ take n ys)
 whole_first [] ys n = (n, refl)
-whole_first (x ∷ xs) ys n = let r = whole_first xs ys n in (Rattle.std.proofs.Common.suc r.0, ap (λ us. x ∷ us) r.1)
+whole_first (x ∷ xs) ys n = let r = whole_first xs ys n in (suc r.0, ap (λ us. x ∷ us) r.1)
 
 pub appends_then_part : (old mid new : Option (List ℕ)) (x y : List ℕ) → Appends old mid x → AppendsPart mid new y → AppendsPart old new (x ++ y)
 appends_then_part old mid new x y a b =
@@ -80,3 +83,140 @@ module _ (file : List ℕ) (limits : Limits) (plan : List Turn) (meets : Option 
     part_of_longer before.out now.out p.output f.output beginning.output put.out,
     part_of_longer before.err now.err put.text (run_text frame_of f) (text_begins put.text put.text_of) put.err,
   )
+
+-- ---- rounds that are put
+
+-- the pieces are put one after another
+module _ (frame_of : ℕ → FrameText) (p : Partial) (before mid : Sinks) where
+  pub put_output : IsPutSoFar frame_of p before mid → (out : Option (List ℕ)) (count : ℕ) (output : List ℕ) → Appends mid.out out output → mid.out_faults ≤ count
+      → IsPutSoFar frame_of (record p { output = p.output ++ output }) before (record mid { out = out; out_faults = count })
+  put_output so out count output all later = record {
+    out = appends_twice before.out mid.out out p.output output so.out all;
+    err = so.err;
+    out_count = let l = so.out_count in omega arith;
+    err_count = so.err_count;
+  }
+
+  told_more : (told : List Report) (report : Report) → texts_of frame_of (told ++ report ∷ []) ≡ texts_of frame_of told ++ report_text frame_of report
+  told_more told report = flat_map-append (report_text frame_of) told (report ∷ []) ∙ ap (λ (text : List ℕ). texts_of frame_of told ++ text) (append-nil (report_text frame_of report))
+
+  pub put_report : IsPutSoFar frame_of p before mid → (err : Option (List ℕ)) (count : ℕ) (report : Report) → Appends mid.err err (report_text frame_of report) → mid.err_faults ≤ count
+      → IsPutSoFar frame_of (record p { reports = p.reports ++ report ∷ [] }) before (record mid { err = err; err_faults = count })
+  put_report so err count report all later = record {
+    out = so.out;
+    err = subst (Appends before.err err) (sym (told_more p.reports report)) (appends_twice before.err mid.err err (texts_of frame_of p.reports) (report_text frame_of report) so.err all);
+    out_count = so.out_count;
+    err_count = let l = so.err_count in omega arith;
+  }
+
+pub put_nothing : (frame_of : ℕ → FrameText) (p : Partial) (before : Sinks) → p.reports ≡ [] → p.output ≡ [] → IsPutSoFar frame_of p before before
+put_nothing frame_of p before none silent = record {
+  out = subst (Appends before.out before.out) (sym silent) (appends_nothing before.out);
+  err = subst (λ (reports : List Report). Appends before.err before.err (texts_of frame_of reports)) (sym none) (appends_nothing before.err);
+  out_count = omega arith;
+  err_count = omega arith;
+}
+
+pub put_summary : (frame_of : ℕ → FrameText) (f : Finished) (before mid : Sinks) → IsPutSoFar frame_of (all_rounds f) before mid → (err : Option (List ℕ)) (count : ℕ) → Appends mid.err err (summary_of f)
+    → IsPut frame_of f before (record mid { err = err; err_faults = count })
+put_summary frame_of f before mid so err count all = record { out = so.out; err = appends_twice before.err mid.err err (texts_of frame_of f.reports) (summary_of f) so.err all }
+
+-- ---- puts that fail
+
+rose_by : (most before mid now : ℕ) → before ≤ mid → min (mid + 1) most ≤ now → min (before + 1) most ≤ now
+rose_by most before mid now l r =
+    let a = min-le_left (before + 1) most in
+    let b : min (before + 1) most ≤ min (mid + 1) most = le-min (omega arith) (min-le_right (before + 1) most) in
+    omega arith
+
+rose_from : (before mid now : ℕ) → before ≤ mid → Rose mid now → Rose before now
+rose_from before mid now l r = rose_by (2 ^ 64 - 1) before mid now l r
+
+module _ (mode : Mode) (file : List ℕ) (limits : Limits) (plan : List Turn) (meets : Option (List ℕ) → Option (List ℕ) → Bool) (frame_of : ℕ → FrameText) where
+  pub cut_in_output : (earlier p : Partial) (before mid : Sinks) (out : Option (List ℕ)) (count : ℕ) (output : List ℕ) →
+      IsPartial mode file limits plan meets earlier → IsPartial mode file limits plan meets p → GoesOnByRound earlier.history.entries p.history.entries → p.output ≡ earlier.output ++ output →
+      IsPutSoFar frame_of earlier before mid → AppendsPart mid.out out output → Rose mid.out_faults count →
+      IsCutShort mode file limits plan meets frame_of p before (record mid { out = out; out_faults = count })
+  cut_in_output earlier p before mid out count output a b round is so part rose = record {
+    partial = b;
+    put = inl (record {
+      earlier = earlier;
+      earlier_partial = a;
+      last_round = round;
+      output = output;
+      output_is = is;
+      taken = part.0;
+      out = appends_twice before.out mid.out out earlier.output (take part.0 output) so.out part.1;
+      err = so.err;
+      rose = rose_from before.out_faults mid.out_faults count so.out_count rose;
+    });
+  }
+
+  pub cut_in_report : (p : Partial) (before mid : Sinks) (err : Option (List ℕ)) (count : ℕ) (told : List Report) (report : Report) →
+      IsPartial mode file limits plan meets p → BeginsWith p.reports (told ++ report ∷ []) →
+      IsPutSoFar frame_of (record p { reports = told }) before mid → AppendsPart mid.err err (report_text frame_of report) → Rose mid.err_faults count →
+      IsCutShort mode file limits plan meets frame_of p before (record mid { err = err; err_faults = count })
+  cut_in_report p before mid err count told report a first so part rose = record {
+    partial = a;
+    put = inr (record {
+      out = so.out;
+      text = texts_of frame_of p.reports;
+      text_of = inl refl;
+      err = part_of_longer before.err err (texts_of frame_of (told ++ report ∷ [])) (texts_of frame_of p.reports) (texts_begin frame_of p.reports (told ++ report ∷ []) first)
+          (subst (AppendsPart before.err err) (sym (told_more frame_of p before mid told report))
+          (appends_then_part before.err mid.err err (texts_of frame_of told) (report_text frame_of report) so.err part));
+      rose = rose_from before.err_faults mid.err_faults count so.err_count rose;
+    });
+  }
+
+  pub cut_in_summary : (f : Finished) (before mid : Sinks) (err : Option (List ℕ)) (count : ℕ) → IsRun mode file limits plan meets f →
+      IsPutSoFar frame_of (all_rounds f) before mid → AppendsPart mid.err err (summary_of f) → Rose mid.err_faults count →
+      IsCutShort mode file limits plan meets frame_of (all_rounds f) before (record mid { err = err; err_faults = count })
+  cut_in_summary f before mid err count run so part rose = record {
+    partial = whole_is_partial file limits plan meets mode f run;
+    put = inr (record {
+      out = so.out;
+      text = run_text frame_of f;
+      text_of = inr (f, record { run = run; all = refl }, refl);
+      err = appends_then_part before.err mid.err err (texts_of frame_of f.reports) (summary_of f) so.err part;
+      rose = rose_from before.err_faults mid.err_faults count so.err_count rose;
+    });
+  }
+
+  -- what was put is a first part of the partial run, on each sink
+  pub cut_part : (p : Partial) (before now : Sinks) → IsCutShort mode file limits plan meets frame_of p before now → IsPartPut mode file limits plan meets frame_of p before now
+  cut_part p before now cut = elim cut.put [
+    | inl o ↦ record {
+      out = subst (AppendsPart before.out now.out) (sym o.output_is)
+          (appends_then_part before.out _ now.out o.earlier.output o.output refl (o.taken, o.out ∙ sym (appended before.out o.earlier.output (take o.taken o.output))));
+      text = texts_of frame_of p.reports;
+      text_of = inl refl;
+      err = part_of_longer before.err now.err (texts_of frame_of o.earlier.reports) (texts_of frame_of p.reports)
+          (texts_begin frame_of p.reports o.earlier.reports (round_reports file limits plan meets mode o.earlier p o.earlier_partial cut.partial o.last_round))
+          (part_of_all before.err now.err (texts_of frame_of o.earlier.reports) o.err);
+    }
+    | inr t ↦ record { out = part_of_all before.out now.out p.output t.out; text = t.text; text_of = t.text_of; err = t.err }
+  ]
+
+  pub stopped_part : (p : Partial) (before now : Sinks) → IsStopped mode file limits plan meets frame_of p before now → IsPartPut mode file limits plan meets frame_of p before now
+  stopped_part p before now stopped = record {
+    out = part_of_all before.out now.out p.output stopped.out;
+    text = texts_of frame_of p.reports;
+    text_of = inl refl;
+    err = part_of_longer before.err now.err (texts_of frame_of stopped.told) (texts_of frame_of p.reports) (texts_begin frame_of p.reports stopped.told stopped.told_first)
+        (part_of_all before.err now.err (texts_of frame_of stopped.told) stopped.err);
+  }
+
+-- whatever the answer, what was put is a first part of what each run of the same puts
+pub answer_put : (file : List ℕ) (limits : Limits) (plan : List Turn) (meets : Option (List ℕ) → Option (List ℕ) → Bool) (frame_of : ℕ → FrameText) (f : Finished) (before now : Sinks) (answer : Result Finished RunFault) →
+    1 ≤ limits.harts → IsRun OneByOne file limits plan meets f → LeavesRun OneByOne file limits plan meets frame_of before now answer →
+    AppendsPart before.out now.out f.output × AppendsPart before.err now.err (run_text frame_of f)
+answer_put file limits plan meets frame_of f before now (Ok other) some run done =
+    let same = same_run file limits plan meets other f some done.0 run in (
+      part_of_all before.out now.out f.output (subst (λ (g : Finished). Appends before.out now.out g.output) same done.1.out),
+      part_of_all before.err now.err (run_text frame_of f) (subst (λ (g : Finished). Appends before.err now.err (run_text frame_of g)) same done.1.err),
+    )
+answer_put file limits plan meets frame_of f before now (Err (Write p)) some run cut =
+    part_put file limits plan meets frame_of p f some run cut.partial before now (cut_part OneByOne file limits plan meets frame_of p before now cut)
+answer_put file limits plan meets frame_of f before now (Err (NoMemory p)) some run stopped =
+    part_put file limits plan meets frame_of p f some run stopped.partial before now (stopped_part OneByOne file limits plan meets frame_of p before now stopped)

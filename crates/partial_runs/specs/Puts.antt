@@ -1,5 +1,5 @@
 -- What of a run is put on its two sinks: its output on one, the texts of its reports and the summary on the other.
-use Rattle.std.specs.Prelude.{◌≡◌, ◌⊎◌, ℕ, Bool, List, ◌++◌, Option, Result, Ok, Err}
+use Rattle.std.specs.Prelude.{◌≡◌, ◌≤◌, ◌⊎◌, ℕ, Bool, List, ◌++◌, take, Option, Result, Ok, Err}
 use Rattle.std.specs.List.{flat_map}
 use Rattle.run_record.specs.declared.limits.Limits.{Limits}
 use Rattle.run_record.specs.declared.plan.Turn.{Turn}
@@ -13,6 +13,7 @@ use Rattle.whole_runs.specs.Run.{IsRun}
 use Rattle.partial_runs.specs.declared.partial.Partial.{Partial}
 use Rattle.partial_runs.specs.declared.partial.RunFault.{RunFault}
 use Rattle.partial_runs.specs.declared.partial.RunFault.TheVariants.{Write, NoMemory}
+use Rattle.partial_runs.specs.Starts.{BeginsWith, GoesOnByRound}
 use Rattle.partial_runs.specs.Partials.{IsPartial, all_rounds}
 
 -- The two sinks at some time: the bytes that each tells, and how many of its puts have failed.
@@ -35,13 +36,15 @@ pub record IsPut (frame_of : ℕ → FrameText) (f : Finished) (before now : Sin
   pub out : Appends before.out now.out f.output
   pub err : Appends before.err now.err (run_text frame_of f)
 
--- All of the partial run was put: each round's output, and the texts of its reports.
+-- All of the partial run was put, the output of each round and the texts of its reports. No count of failures fell.
 pub record IsPutSoFar (frame_of : ℕ → FrameText) (p : Partial) (before now : Sinks) : Type 0 where
   pub out : Appends before.out now.out p.output
   pub err : Appends before.err now.err (texts_of frame_of p.reports)
+  pub out_count : before.out_faults ≤ now.out_faults
+  pub err_count : before.err_faults ≤ now.err_faults
 
 module _ (mode : Mode) (file : List ℕ) (limits : Limits) (plan : List Turn) (meets : Option (List ℕ) → Option (List ℕ) → Bool) (frame_of : ℕ → FrameText) where
-  -- The partial run is all of this run, whose summary is put too.
+  -- The partial run is all of this run.
   pub record IsAllOf (p : Partial) (f : Finished) : Type 0 where
     pub run : IsRun mode file limits plan meets f
     pub all : p ≡ all_rounds f
@@ -57,16 +60,38 @@ module _ (mode : Mode) (file : List ℕ) (limits : Limits) (plan : List Turn) (m
     pub text_of : IsTextOf p text
     pub err : AppendsPart before.err now.err text
 
-  -- A put failed: the count of a sink rose, and parts of the partial run were put.
+  -- The put of the last round's output failed: all of the rounds before was put, and no text of the last round.
+  pub record IsCutInOutput (p : Partial) (before now : Sinks) : Type 0 where
+    pub earlier : Partial
+    pub earlier_partial : IsPartial mode file limits plan meets earlier
+    pub last_round : GoesOnByRound earlier.history.entries p.history.entries
+    pub output : List ℕ
+    pub output_is : p.output ≡ earlier.output ++ output
+    pub taken : ℕ
+    pub out : Appends before.out now.out (earlier.output ++ take taken output)
+    pub err : Appends before.err now.err (texts_of frame_of earlier.reports)
+    pub rose : Rose before.out_faults now.out_faults
+
+  -- The put of a text failed: all of the output was put.
+  pub record IsCutInTexts (p : Partial) (before now : Sinks) : Type 0 where
+    pub out : Appends before.out now.out p.output
+    pub text : List ℕ
+    pub text_of : IsTextOf p text
+    pub err : AppendsPart before.err now.err text
+    pub rose : Rose before.err_faults now.err_faults
+
+  -- A put failed, and nothing more was put.
   pub record IsCutShort (p : Partial) (before now : Sinks) : Type 0 where
     pub partial : IsPartial mode file limits plan meets p
-    pub rose : Rose before.out_faults now.out_faults ⊎ Rose before.err_faults now.err_faults
-    pub put : IsPartPut p before now
+    pub put : IsCutInOutput p before now ⊎ IsCutInTexts p before now
 
-  -- Memory ran out: parts of the partial run were put, and nothing more.
+  -- Memory ran out: all of the output was put, with the whole texts of the first reports, or of all, and nothing more.
   pub record IsStopped (p : Partial) (before now : Sinks) : Type 0 where
     pub partial : IsPartial mode file limits plan meets p
-    pub put : IsPartPut p before now
+    pub out : Appends before.out now.out p.output
+    pub told : List Report
+    pub told_first : BeginsWith p.reports told
+    pub err : Appends before.err now.err (texts_of frame_of told)
 
   -- What a call that runs the file and puts what it tells leaves on the sinks, by its answer.
   abbrev pub LeavesRun : Sinks → Sinks → Result Finished RunFault → Type 0

@@ -1,5 +1,5 @@
 -- Histories that stop at a round's end.
-use Rattle.std.specs.Prelude.{◌≡◌, ◌≤◌, ℕ, List, ◌++◌, Option}
+use Rattle.std.specs.Prelude.{◌≡◌, ◌<◌, ◌≤◌, ℕ, List, ◌++◌, All, Option}
 use Rattle.run_record.specs.declared.entry.Entry.{Entry}
 use Rattle.run_record.specs.declared.limits.Limits.{Limits}
 use Rattle.run_record.specs.declared.plan.Turn.{Turn}
@@ -40,6 +40,14 @@ pub record GoesOn (start whole : List Entry) : Type 0 where
   pub later : List Entry
   pub whole_is : whole ≡ start ++ later
   pub of_later_rounds : AreOfLaterRounds start later
+
+-- The history goes on after the start by the entries of one round, or by none.
+pub record GoesOnByRound (start whole : List Entry) : Type 0 where
+  pub last : List Entry
+  pub whole_is : whole ≡ start ++ last
+  pub round : ℕ
+  pub of_round : All (λ (e : Entry). e.round ≡ round) last
+  pub of_earlier_rounds : All (λ (e : Entry). e.round < round) start
 
 -- What was reported goes on: by more reports after those before, and no fewer suppressed and equal ones.
 pub record ReportsGoOn (start whole : Kept) : Type 0 where

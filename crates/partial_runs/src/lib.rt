@@ -13,6 +13,6 @@ mod puts;
 mod starts;
 
 pub use partial::{Partial, RunFault};
-pub use partials::{no_rounds_law, partial_law, whole_law};
-pub use puts::{part_put_law, put_law};
+pub use partials::{no_rounds_law, partial_law, partial_races_law, round_end_law, whole_law};
+pub use puts::{answer_law, cut_law, cut_part_law, part_put_law, put_law};
 pub use starts::{first_reports_law, lawful_start_law, output_grows, start_law};

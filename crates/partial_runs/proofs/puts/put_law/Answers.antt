@@ -1,14 +1,14 @@
-use Rattle.partial_runs.proofs.PutLaw.{appends_nothing, appends_twice, appends_then_part, part_of_all}
+use Rattle.partial_runs.proofs.PutLaw.{put_nothing, put_output, put_report, put_summary}
 use Rattle.partial_runs.proofs.puts.put_law.Goals as goal
 
-pub returns-clause-both : goal.returns-clause-both
-returns-clause-both c = appends_twice
+pub returns-clause-nothing : goal.returns-clause-nothing
+returns-clause-nothing c = put_nothing
 
-pub returns-clause-cut : goal.returns-clause-cut
-returns-clause-cut c = appends_then_part
+pub returns-clause-output : goal.returns-clause-output
+returns-clause-output c = put_output
 
-pub returns-clause-all : goal.returns-clause-all
-returns-clause-all c = part_of_all
+pub returns-clause-report : goal.returns-clause-report
+returns-clause-report c = put_report
 
-pub returns-clause-none : goal.returns-clause-none
-returns-clause-none c = appends_nothing
+pub returns-clause-summary : goal.returns-clause-summary
+returns-clause-summary c = put_summary
