@@ -25,7 +25,9 @@ pub record AreWholeRounds {S : Type 0} (mode : Mode) (limits : Limits) (plan : L
 
 -- The history is lawful but for what a lawful one says of its run's end: it tells what the bare machine does, in whole
 -- rounds; its notes stand rightly; its checks are those of its accesses, and store and load by the rules.
-pub record IsLawfulStart {S : Type 0} (mode : Mode) (limits : Limits) (plan : List Turn) (bare : Bare S) (granule_of : ℕ → Option ℕ) (entries : List Entry) : Type 0 where
+pub record IsLawfulStart
+    {S : Type 0} (mode : Mode) (limits : Limits) (plan : List Turn) (bare : Bare S) (granule_of : ℕ → Option ℕ)
+    (entries : List Entry) : Type 0 where
   pub faithful : IsFaithful mode bare entries
   pub rounds : AreWholeRounds mode limits plan bare entries
   pub labelled : NeedsLabel limits (needs_slot bare entries) (moments entries)

@@ -18,8 +18,8 @@ ghost use Rattle.partial_runs.specs.Starts.{BeginsWith, AreWholeRounds, IsLawful
 /// end of each round.
 /// `S` is the type of the bare machine's states.
 pub fn lawful_start_law<S>()
-    ensures whole { (mode : Mode) (limits : Limits) (plan : List Turn) (bare : Bare S) (granule_of : ℕ → Option ℕ) (entries : List Entry)
-        → IsLawful mode limits plan bare granule_of entries → IsLawfulStart mode limits plan bare granule_of entries }
+    ensures whole { (mode : Mode) (limits : Limits) (plan : List Turn) (bare : Bare S) (granule_of : ℕ → Option ℕ)
+        (entries : List Entry) → IsLawful mode limits plan bare granule_of entries → IsLawfulStart mode limits plan bare granule_of entries }
     ensures so_far { (limits : Limits) (plan : List Turn) (bare : Bare S) (granule_of : ℕ → Option ℕ) (entries : List Entry)
         → IsLawfulSoFar limits bare granule_of entries → AreWholeRounds OneByOne limits plan bare entries
         → IsLawfulStart OneByOne limits plan bare granule_of entries }
@@ -29,17 +29,20 @@ pub fn lawful_start_law<S>()
 /// other, by later rounds. And each lawful history goes on after each lawful start.
 /// `S` is the type of the bare machine's states.
 pub fn start_law<S>()
-    ensures in_order { (limits : Limits) (plan : List Turn) (bare : Bare S) (granule_of : ℕ → Option ℕ) (entries others : List Entry) → LeaveLabels bare
+    ensures in_order { (limits : Limits) (plan : List Turn) (bare : Bare S) (granule_of : ℕ → Option ℕ)
+        (entries others : List Entry) → LeaveLabels bare
         → IsLawfulStart OneByOne limits plan bare granule_of entries → IsLawfulStart OneByOne limits plan bare granule_of others
         → GoesOn entries others ⊎ GoesOn others entries }
-    ensures whole { (limits : Limits) (plan : List Turn) (bare : Bare S) (granule_of : ℕ → Option ℕ) (entries others : List Entry) → LeaveLabels bare
+    ensures whole { (limits : Limits) (plan : List Turn) (bare : Bare S) (granule_of : ℕ → Option ℕ)
+        (entries others : List Entry) → LeaveLabels bare
         → IsLawfulStart OneByOne limits plan bare granule_of entries → IsLawful OneByOne limits plan bare granule_of others
         → GoesOn entries others }
 {}
 
 /// What is reported of the first rounds begins what is reported of all, and no fewer races are suppressed or equal.
 pub fn first_reports_law()
-    ensures { (limits : Limits) (address_of : ℕ → ℕ) (meets : Option (List ℕ) → Option (List ℕ) → Bool) (entries later : List Entry) (kept whole : Kept)
+    ensures { (limits : Limits) (address_of : ℕ → ℕ) (meets : Option (List ℕ) → Option (List ℕ) → Bool)
+        (entries later : List Entry) (kept whole : Kept)
         → AreOfLaterRounds entries later → AreReports limits address_of meets (moments entries) kept
         → AreReports limits address_of meets (moments (entries ++ later)) whole → ReportsGoOn kept whole }
 {}
