@@ -42,17 +42,21 @@ all_by t es a = ap steps_in (kept es a)
   where
     kept : (es : List Entry) → All (λ (e : Entry). e.tid ≡ t) es → filter (λ (e : Entry). e.tid == t) es ≡ es
     kept [] a = refl
-    kept (e ∷ es) a = rw (eq-eqb e.tid t (All-head (λ (e : Entry). e.tid ≡ t) e es a)) (ap (λ (xs : List Entry). e ∷ xs) (kept es (All-tail (λ (e : Entry). e.tid ≡ t) e es a)))
+    kept (e ∷ es) a = rw (eq-eqb e.tid t (All-head (λ (e : Entry). e.tid ≡ t) e es a))
+        (ap (λ (xs : List Entry). e ∷ xs) (kept es (All-tail (λ (e : Entry). e.tid ≡ t) e es a)))
 
 -- the entries of the rounds before are of earlier rounds
-past : {S : Type 0} (mode : Mode) (limits : Limits) (bare : Bare S) (plan : List Turn) (p : Progress) → Reaches mode limits bare plan p → All (λ (e : Entry). e.round < p.round) p.entries
+past : {S : Type 0} (mode : Mode) (limits : Limits) (bare : Bare S) (plan : List Turn) (p : Progress) → Reaches mode limits bare plan p →
+    All (λ (e : Entry). e.round < p.round) p.entries
 past mode limits bare plan _ Start = All-nil (λ (e : Entry). e.round < 0)
 past mode limits bare plan _ (Round p part r going given round) =
     let o = past mode limits bare plan p r in
-    All-append (λ (e : Entry). e.round < p.round + 1) p.entries part (λ i d l. let z = o i d l in omega arith) (λ i d l. let z = (round.entries i d l).round in omega arith)
+    All-append (λ (e : Entry). e.round < p.round + 1) p.entries part (λ i d l. let z = o i d l in omega arith)
+    (λ i d l. let z = (round.entries i d l).round in omega arith)
 
 -- no entries are a lawful start
-pub no_entries : {S : Type 0} (mode : Mode) (limits : Limits) (bare : Bare S) (granule_of : ℕ → Option ℕ) (plan : List Turn) → IsLawfulStart mode limits plan bare granule_of []
+pub no_entries : {S : Type 0} (mode : Mode) (limits : Limits) (bare : Bare S) (granule_of : ℕ → Option ℕ) (plan : List Turn) →
+    IsLawfulStart mode limits plan bare granule_of []
 no_entries mode limits bare granule_of plan = record {
   faithful = record { ordered = λ i j d l m. absurd (omega arith); made = λ i e q. absurd cc; turns = λ i e q. absurd cc; stamped = λ i e q. absurd cc };
   rounds = record { progress = at_start limits plan; reached = Start; history_is = refl };
@@ -67,7 +71,8 @@ no_entries mode limits bare granule_of plan = record {
 module _ {S : Type 0} (limits : Limits) (bare : Bare S) (granule_of : ℕ → Option ℕ) (plan : List Turn) where
   -- a round of thread d.tid, and what comes after it
   side_of :
-      (p : Progress) (part tail : List Entry) (d : Due) → dues OneByOne limits bare p ≡ d ∷ [] → IsRound OneByOne limits bare p part → IsLawfulSoFar limits bare granule_of (p.entries ++ (part ++ tail)) →
+      (p : Progress) (part tail : List Entry) (d : Due) → dues OneByOne limits bare p ≡ d ∷ [] → IsRound OneByOne limits bare p part →
+      IsLawfulSoFar limits bare granule_of (p.entries ++ (part ++ tail)) →
       All (λ (e : Entry). p.round + 1 ≤ e.round) tail → Side limits bare granule_of p.round p.era d.tid d.given p.entries part tail
   side_of p part tail d one round lawful later = record {
     lawful = lawful;
@@ -84,7 +89,8 @@ module _ {S : Type 0} (limits : Limits) (bare : Bare S) (granule_of : ℕ → Op
         record {
           needs = two.1;
           unlabelled = none_from (label_now limits.epochs h d.tid) three.1;
-          none_free = ap (λ (es : List Entry). queue_now limits.epochs limits.slots (moments_in p.round p.era (p.entries ++ es))) (sym (take-length part)) ∙ m.1;
+          none_free =
+              ap (λ (es : List Entry). queue_now limits.epochs limits.slots (moments_in p.round p.era (p.entries ++ es))) (sym (take-length part)) ∙ m.1;
         };
   }
     where
@@ -104,7 +110,8 @@ module _ {S : Type 0} (limits : Limits) (bare : Bare S) (granule_of : ℕ → Op
       made = All-head (MakesDue OneByOne limits bare p part) d [] (subst (All (MakesDue OneByOne limits bare p part)) one round.made)
 
   module _ (local : LeaveLabels bare) where
-    comes_part : (round era t n : ℕ) (xs part tail : List Entry) → Side limits bare granule_of round era t n xs part tail → ComesTo bare (state_after bare xs) → ComesTo bare (state_after bare (xs ++ part))
+    comes_part : (round era t n : ℕ) (xs part tail : List Entry) → Side limits bare granule_of round era t n xs part tail →
+        ComesTo bare (state_after bare xs) → ComesTo bare (state_after bare (xs ++ part))
     comes_part round era t n xs [] tail side comes = subst (λ (es : List Entry). ComesTo bare (state_after bare es)) (sym (append-nil xs)) comes
     comes_part round era t n xs (x ∷ part) tail side comes =
         subst (λ (es : List Entry). ComesTo bare (state_after bare es)) (append_assoc xs (x ∷ []) part)
@@ -117,7 +124,8 @@ module _ {S : Type 0} (limits : Limits) (bare : Bare S) (granule_of : ℕ → Op
       comes : ComesTo bare (state_after bare p.entries)
 
     same_round :
-        (p q : Progress) (part other ta tb : List Entry) → SameSoFar p q → list_any (λ (d : Due). nat_lt 0 d.given) (dues OneByOne limits bare p) ≡ true → IsRound OneByOne limits bare p part → IsRound OneByOne limits bare q other →
+        (p q : Progress) (part other ta tb : List Entry) → SameSoFar p q → list_any (λ (d : Due). nat_lt 0 d.given) (dues OneByOne limits bare p) ≡ true →
+        IsRound OneByOne limits bare p part → IsRound OneByOne limits bare q other →
         All (λ (e : Entry). p.round + 1 ≤ e.round) ta → All (λ (e : Entry). q.round + 1 ≤ e.round) tb →
         IsLawfulSoFar limits bare granule_of (p.entries ++ (part ++ ta)) → IsLawfulSoFar limits bare granule_of (q.entries ++ (other ++ tb)) →
         SameSoFar (after_round OneByOne limits bare p part) (after_round OneByOne limits bare q other)
@@ -129,13 +137,16 @@ module _ {S : Type 0} (limits : Limits) (bare : Bare S) (granule_of : ℕ → Op
         (subst (λ (q : Progress). IsLawfulSoFar limits bare granule_of (q.entries ++ (other ++ tb))) back yours)
         (subst (λ (q : Progress). All (λ (e : Entry). q.round + 1 ≤ e.round) tb) back lb) in
         record {
-          same = ap₂ (after_round OneByOne limits bare) so.same (same_part limits bare granule_of local p.round p.era due.0.tid due.0.given p.entries part ta other tb side theirs so.comes);
+          same = ap₂ (after_round OneByOne limits bare) so.same
+              (same_part limits bare granule_of local p.round p.era due.0.tid due.0.given p.entries part ta other tb side theirs so.comes);
           comes = comes_part p.round p.era due.0.tid due.0.given p.entries part ta side so.comes;
         }
 
-    rounds_from : (p : Progress) (part tail : List Entry) → IsRound OneByOne limits bare p part → All (λ (e : Entry). p.round + 1 ≤ e.round) tail → All (λ (e : Entry). p.round ≤ e.round) (part ++ tail)
+    rounds_from : (p : Progress) (part tail : List Entry) → IsRound OneByOne limits bare p part → All (λ (e : Entry). p.round + 1 ≤ e.round) tail →
+        All (λ (e : Entry). p.round ≤ e.round) (part ++ tail)
     rounds_from p part tail round later =
-        All-append (λ (e : Entry). p.round ≤ e.round) part tail (λ i e l. let o = (round.entries i e l).round in omega arith) (λ i e l. let o = later i e l in omega arith)
+        All-append (λ (e : Entry). p.round ≤ e.round) part tail (λ i e l. let o = (round.entries i e l).round in omega arith)
+        (λ i e l. let o = later i e l in omega arith)
 
     same_progress :
         (p q : Progress) → Reaches OneByOne limits bare plan p → Reaches OneByOne limits bare plan q → p.round ≡ q.round → (ta tb : List Entry) →
@@ -193,7 +204,8 @@ module _ {S : Type 0} (limits : Limits) (bare : Bare S) (granule_of : ℕ → Op
     no_later : (p : Progress) → All (λ (e : Entry). p.round ≤ e.round) []
     no_later p = All-nil (λ (e : Entry). p.round ≤ e.round)
 
-    module _ (p q : Progress) (r : Reaches OneByOne limits bare plan p) (s : Reaches OneByOne limits bare plan q) (mine : IsLawfulSoFar limits bare granule_of p.entries) (yours : IsLawfulSoFar limits bare granule_of q.entries) where
+    module _ (p q : Progress) (r : Reaches OneByOne limits bare plan p) (s : Reaches OneByOne limits bare plan q)
+        (mine : IsLawfulSoFar limits bare granule_of p.entries) (yours : IsLawfulSoFar limits bare granule_of q.entries) where
       -- where a run came further it came as far before
       as_far : (o : Earlier p.round q) → SameSoFar p o.progress
       as_far o =
@@ -207,14 +219,16 @@ module _ {S : Type 0} (limits : Limits) (bare : Bare S) (granule_of : ℕ → Op
           let so = as_far o in
           elim ends [
             | inl e ↦ (let z = sym e ∙ (ap (λ (x : Progress). end_in bare (state_after bare x.entries)) so.same ∙ o.goes_on) in cc)
-            | inr e ↦ (let z = sym e.1 ∙ (ap (λ (x : Progress). list_any (λ (d : Due). nat_lt 0 d.given) (dues OneByOne limits bare x)) so.same ∙ o.given) in cc)
+            | inr e ↦ (let z = sym e.1 ∙ (ap (λ (x : Progress). list_any (λ (d : Due). nat_lt 0 d.given) (dues OneByOne limits bare x)) so.same ∙ o.given) in
+                cc)
           ]
 
       further : p.round ≤ q.round → GoesOn p.entries q.entries
       further l = elim (cases_eq p.round q.round) [
         | inl e ↦
             let so = same_progress p q r s e [] [] (no_later p) (no_later q)
-            (subst (IsLawfulSoFar limits bare granule_of) (sym (append-nil p.entries)) mine) (subst (IsLawfulSoFar limits bare granule_of) (sym (append-nil q.entries)) yours) in
+            (subst (IsLawfulSoFar limits bare granule_of) (sym (append-nil p.entries)) mine)
+            (subst (IsLawfulSoFar limits bare granule_of) (sym (append-nil q.entries)) yours) in
             record {
               later = [];
               whole_is = ap (λ (x : Progress). x.entries) (sym so.same) ∙ sym (append-nil p.entries);
@@ -244,7 +258,8 @@ module _ {S : Type 0} (limits : Limits) (bare : Bare S) (granule_of : ℕ → Op
   }
 
   -- a history that is lawful so far, in whole rounds
-  pub start_of : (entries : List Entry) → IsLawfulSoFar limits bare granule_of entries → AreWholeRounds OneByOne limits plan bare entries → IsLawfulStart OneByOne limits plan bare granule_of entries
+  pub start_of : (entries : List Entry) → IsLawfulSoFar limits bare granule_of entries → AreWholeRounds OneByOne limits plan bare entries →
+      IsLawfulStart OneByOne limits plan bare granule_of entries
   start_of entries lawful rounds = record {
     faithful = lawful.faithful;
     rounds = rounds;
@@ -256,7 +271,8 @@ module _ {S : Type 0} (limits : Limits) (bare : Bare S) (granule_of : ℕ → Op
     loads_last = λ m. lawful.loads;
   }
 
-  pub start_of_whole : (mode : Mode) (entries : List Entry) → IsLawful mode limits plan bare granule_of entries → IsLawfulStart mode limits plan bare granule_of entries
+  pub start_of_whole : (mode : Mode) (entries : List Entry) → IsLawful mode limits plan bare granule_of entries →
+      IsLawfulStart mode limits plan bare granule_of entries
   start_of_whole mode entries lawful = record {
     faithful = lawful.faithful;
     rounds = record { progress = lawful.rounds.progress; reached = lawful.rounds.reached; history_is = lawful.rounds.history_is };

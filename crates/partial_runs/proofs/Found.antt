@@ -48,21 +48,25 @@ same_report : {m n p q : Side} → m ≡ n → p ≡ q → ◌≡◌ {A = Report
 same_report x y = rw (x, y) refl
 
 -- and it has one report
-one_report : (limits : Limits) (address_of : ℕ → ℕ) (h : List Moment) (a granule word : ℕ) (r s : Report) → IsReport limits address_of h a granule word r → IsReport limits address_of h a granule word s → r ≡ s
+one_report : (limits : Limits) (address_of : ℕ → ℕ) (h : List Moment) (a granule word : ℕ) (r s : Report) → IsReport limits address_of h a granule word r →
+    IsReport limits address_of h a granule word s → r ≡ s
 one_report limits address_of h a granule word r s p q =
     let mine = one_access h a p.tid q.tid p.access q.access p.made q.made in
     let first : p.first ≡ q.first = (let z = sym p.first_is ∙ q.first_is in cc) in
-    let other = one_access h q.first p.other q.other p.other_access q.other_access (subst (λ x. MakesAccess h x p.other p.other_access) first p.other_made) q.other_made in
+    let other = one_access h q.first p.other q.other p.other_access q.other_access (subst (λ x. MakesAccess h x p.other p.other_access) first p.other_made)
+    q.other_made in
     same_report (rw (p.mine, q.mine, mine.0, mine.1) refl) (rw (p.previous, q.previous, first, other.0, other.1) refl)
 
-one_found : (limits : Limits) (address_of : ℕ → ℕ) (h : List Moment) (n : ℕ) (f k : List Report) → Finds limits address_of h n f → Finds limits address_of h n k → f ≡ k
+one_found : (limits : Limits) (address_of : ℕ → ℕ) (h : List Moment) (n : ℕ) (f k : List Report) → Finds limits address_of h n f →
+    Finds limits address_of h n k → f ≡ k
 one_found limits address_of h _ _ _ Start Start = refl
 one_found limits address_of h _ _ _ (Quiet {n = n} {found = f} p none) (Quiet {found = k} q never) = one_found limits address_of h n f k p q
 one_found limits address_of h _ _ _ (Quiet p none) (Race c w r q candidate told) = absurd (none c w candidate)
 one_found limits address_of h _ _ _ (Race c w r p candidate told) (Quiet q none) = absurd (none c w candidate)
 one_found limits address_of h _ _ _ (Race {n = n} {found = f} c w r p candidate told) (Race {found = k} d v s q other_candidate other_told) =
     let same = one_candidate limits.epochs h n c d w v candidate other_candidate in
-    let report = one_report limits address_of h n d.granule v r s (subst (λ (x : Check × ℕ). IsReport limits address_of h n x.0.granule x.1 r) same told) other_told in
+    let report = one_report limits address_of h n d.granule v r s (subst (λ (x : Check × ℕ). IsReport limits address_of h n x.0.granule x.1 r) same told)
+    other_told in
     rw (one_found limits address_of h n f k p q, report) refl
 
 -- ---- and it grows with them
@@ -72,15 +76,18 @@ module _ (limits : Limits) (address_of : ℕ → ℕ) (h : List Moment) where
   found_grows n _ f _ l a Start = at_start n f (omega arith) a
     where
       at_start : (n : ℕ) (f : List Report) → n ≡ 0 → Finds limits address_of h n f → BeginsWith [] f
-      at_start n f q a = subst (λ (k : List Report). BeginsWith k f) (one_found limits address_of h 0 f [] (subst (λ (i : ℕ). Finds limits address_of h i f) q a) Start) (begins_itself f)
+      at_start n f q a = subst (λ (k : List Report). BeginsWith k f)
+          (one_found limits address_of h 0 f [] (subst (λ (i : ℕ). Finds limits address_of h i f) q a) Start) (begins_itself f)
   found_grows n _ f _ l a (Quiet {n = m} {found = k} b none) = elim (cases_eq n (suc m)) [
-    | inl q ↦ subst (λ (k : List Report). BeginsWith k f) (one_found limits address_of h (suc m) f k (subst (λ (i : ℕ). Finds limits address_of h i f) q a) (Quiet b none)) (begins_itself f)
+    | inl q ↦ subst (λ (k : List Report). BeginsWith k f)
+        (one_found limits address_of h (suc m) f k (subst (λ (i : ℕ). Finds limits address_of h i f) q a) (Quiet b none)) (begins_itself f)
     | inr d ↦ found_grows n m f k (omega arith) a b
   ]
   found_grows n _ f _ l a (Race {n = m} {found = k} c w r b candidate told) = elim (cases_eq n (suc m)) [
     | inl q ↦
         subst (λ (k : List Report). BeginsWith k f)
-        (one_found limits address_of h (suc m) f (k ++ r ∷ []) (subst (λ (i : ℕ). Finds limits address_of h i f) q a) (Race c w r b candidate told)) (begins_itself f)
+        (one_found limits address_of h (suc m) f (k ++ r ∷ []) (subst (λ (i : ℕ). Finds limits address_of h i f) q a) (Race c w r b candidate told))
+        (begins_itself f)
     | inr d ↦ begins_twice (begins_push k (r ∷ [])) (found_grows n m f k (omega arith) a b)
   ]
 
@@ -98,7 +105,8 @@ reports_stay k = record { reports = begins_itself k.reports; suppressed = omega 
 
 module _ (meets : Option (List ℕ) → Option (List ℕ) → Bool) where
   one_more : (k : Kept) (r : Report) (p q : Bool) →
-      ReportsGoOn k (if p then record k { suppressed = k.suppressed + 1 } else if q then record k { equal = k.equal + 1 } else record k { reports = k.reports ++ r ∷ [] })
+      ReportsGoOn k
+      (if p then record k { suppressed = k.suppressed + 1 } else if q then record k { equal = k.equal + 1 } else record k { reports = k.reports ++ r ∷ [] })
   one_more k r true q = record { reports = begins_itself k.reports; suppressed = omega arith; equal = omega arith }
   one_more k r false true = record { reports = begins_itself k.reports; suppressed = omega arith; equal = omega arith }
   one_more k r false false = record { reports = begins_push k.reports (r ∷ []); suppressed = omega arith; equal = omega arith }

@@ -17,7 +17,8 @@ use Rattle.partial_runs.proofs.Lists.{begins_itself, begins_push, begins_twice}
 module _ (file : List ℕ) where
   create_grows : (w : World) (t : ℕ) (x : Thread) (pc argument stack : ℕ) (full : Bool) →
       BeginsWith (cond full (desk_returns w t x (calls.Create pc argument stack) (minus 11))
-      (desk_returns (record w { threads = w.threads ++ new_thread pc argument stack ∷ [] }) t x (calls.Create pc argument stack) (length w.threads))).world.output w.output
+      (desk_returns (record w { threads = w.threads ++ new_thread pc argument stack ∷ [] }) t x (calls.Create pc argument stack)
+      (length w.threads))).world.output w.output
   create_grows w t x pc argument stack true = begins_itself w.output
   create_grows w t x pc argument stack false = begins_itself w.output
 
@@ -43,12 +44,14 @@ module _ (file : List ℕ) where
     after_grows w t zero = begins_itself w.output
     after_grows w t (suc n) = begins_twice (step_grows (after (bare_of file harts) w t n) t) (after_grows w t n)
 
-    entries_grow : (w : World) (es : List Entry) → BeginsWith (fold (λ (s : World) (e : Entry). after (bare_of file harts) s e.tid e.steps) w es).output w.output
+    entries_grow : (w : World) (es : List Entry) →
+        BeginsWith (fold (λ (s : World) (e : Entry). after (bare_of file harts) s e.tid e.steps) w es).output w.output
     entries_grow w [] = begins_itself w.output
     entries_grow w (e ∷ es) = begins_twice (entries_grow (after (bare_of file harts) w e.tid e.steps) es) (after_grows w e.tid e.steps)
 
     -- the output of a history begins that of each longer one
-    pub output_grows : (start later : List Entry) → BeginsWith (state_after (bare_of file harts) (start ++ later)).output (state_after (bare_of file harts) start).output
+    pub output_grows : (start later : List Entry) →
+        BeginsWith (state_after (bare_of file harts) (start ++ later)).output (state_after (bare_of file harts) start).output
     output_grows start later =
         subst (λ (w : World). BeginsWith w.output (state_after (bare_of file harts) start).output)
         (sym (fold-append (λ (s : World) (e : Entry). after (bare_of file harts) s e.tid e.steps) (bare_of file harts).start start later))

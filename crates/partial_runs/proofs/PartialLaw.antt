@@ -40,16 +40,19 @@ module _ (file : List ℕ) (limits : Limits) (plan : List Turn) (meets : Option 
   }
 
   -- the reports of a partial run of one round less begin its own
-  pub round_reports : (mode : Mode) (earlier p : Partial) → IsPartial mode file limits plan meets earlier → IsPartial mode file limits plan meets p → GoesOnByRound earlier.history.entries p.history.entries → BeginsWith p.reports earlier.reports
+  pub round_reports : (mode : Mode) (earlier p : Partial) → IsPartial mode file limits plan meets earlier → IsPartial mode file limits plan meets p →
+      GoesOnByRound earlier.history.entries p.history.entries → BeginsWith p.reports earlier.reports
   round_reports mode earlier p a b on =
-      let later : AreOfLaterRounds earlier.history.entries on.last = λ i e l j d m. let x = on.of_round i e l in let y = on.of_earlier_rounds j d m in omega arith in
+      let later : AreOfLaterRounds earlier.history.entries on.last =
+      λ i e l j d m. let x = on.of_round i e l in let y = on.of_earlier_rounds j d m in omega arith in
       subst (BeginsWith p.reports) (sym a.reports)
       (subst (λ (reports : List Report). BeginsWith reports a.kept.reports) (sym b.reports)
       (first_reports meets limits (granule_address file) earlier.history.entries on.last a.kept b.kept later a.kept_are
       (subst (λ (es : List Entry). AreReports limits (granule_address file) meets (moments es) b.kept) on.whole_is b.kept_are)).reports)
 
   -- what is kept at a round's end
-  pub at_round_end : (mode : Mode) (p : Partial) (kept : Kept) → IsLawfulStart mode limits plan (bare_of file limits.harts) (granule_of file) p.history.entries → Told meets file limits p.history.entries kept →
+  pub at_round_end : (mode : Mode) (p : Partial) (kept : Kept) →
+      IsLawfulStart mode limits plan (bare_of file limits.harts) (granule_of file) p.history.entries → Told meets file limits p.history.entries kept →
       p.reports ≡ kept.reports → p.output ≡ (state_after (bare_of file limits.harts) p.history.entries).output → IsPartial mode file limits plan meets p
   at_round_end mode p kept lawful told reports output = record {
     lawful = lawful;
@@ -60,20 +63,39 @@ module _ (file : List ℕ) (limits : Limits) (plan : List Turn) (meets : Option 
   }
 
   -- the reports of a partial run stand for races
-  pub partial_races : (mode : Mode) (p : Partial) → limits.slots ≤ 255 → 1 ≤ limits.epochs → limits.epochs ≤ 16383 → image_of file ≡ Ok file → IsPartial mode file limits plan meets p →
+  pub partial_races : (mode : Mode) (p : Partial) → limits.slots ≤ 255 → 1 ≤ limits.epochs → limits.epochs ≤ 16383 → image_of file ≡ Ok file →
+      IsPartial mode file limits plan meets p →
       All (StandsForRace limits.epochs (granule_of file) (granule_address file) (moments p.history.entries)) p.reports
   partial_races mode p few some most accepted partial =
       let lawful = partial.lawful in
       let bare = bare_of file limits.harts in
       let sound : IsSound limits (granule_of file) (needs_slot bare p.history.entries) p.history.entries =
-      record { few_slots = few; some_epochs = some; few_epochs = most; notes = lawful.notes; checks = lawful.checks; stores = lawful.stores; loads = lawful.loads } in
-      let rise : RoundsNeverFall p.history.entries = subst RoundsNeverFall (sym lawful.rounds.history_is) (rounds_rise mode limits bare plan lawful.rounds.progress lawful.rounds.reached) in
+      record {
+        few_slots = few;
+        some_epochs = some;
+        few_epochs = most;
+        notes = lawful.notes;
+        checks = lawful.checks;
+        stores = lawful.stores;
+        loads = lawful.loads;
+      } in
+      let rise : RoundsNeverFall p.history.entries = subst RoundsNeverFall (sym lawful.rounds.history_is)
+      (rounds_rise mode limits bare plan lawful.rounds.progress lawful.rounds.reached) in
       subst (All (StandsForRace limits.epochs (granule_of file) (granule_address file) (moments p.history.entries))) (sym partial.reports)
       (races_kept limits (granule_of file) (granule_address file) (needs_slot bare p.history.entries) p.history.entries sound rise
       (λ b g q. let y = granule_address-of file (8 * b) g accepted q in omega arith) meets partial.kept partial.kept_are)
 
-  same_finished : (f other : Finished) → f.history.entries ≡ other.history.entries → kept_in f ≡ kept_in other → f.output ≡ other.output → f.last ≡ other.last → f ≡ other
-  same_finished f other h k o l = λ i. record { history = record { entries = h i }; reports = (k i).reports; suppressed = (k i).suppressed; equal = (k i).equal; output = o i; last = l i }
+  same_finished : (f other : Finished) → f.history.entries ≡ other.history.entries → kept_in f ≡ kept_in other → f.output ≡ other.output →
+      f.last ≡ other.last → f ≡ other
+  same_finished f other h k o l =
+      λ i. record {
+        history = record { entries = h i };
+        reports = (k i).reports;
+        suppressed = (k i).suppressed;
+        equal = (k i).equal;
+        output = o i;
+        last = l i;
+      }
 
   pub same_run : (f other : Finished) → 1 ≤ limits.harts → IsRun OneByOne file limits plan meets f → IsRun OneByOne file limits plan meets other → f ≡ other
   same_run f other some a b =
@@ -83,7 +105,8 @@ module _ (file : List ℕ) (limits : Limits) (plan : List Turn) (meets : Option 
       (one_kept limits (granule_address file) meets (moments other.history.entries) (kept_in f) (kept_in other)
       (subst (λ (es : List Entry). AreReports limits (granule_address file) meets (moments es) (kept_in f)) same a.reports) b.reports)
       (a.output ∙ (ap (λ (es : List Entry). (state_after (bare_of file limits.harts) es).output) same ∙ sym b.output))
-      (one_end limits (bare_of file limits.harts) (granule_of file) plan local f.history.entries other.history.entries f.last other.last a.lawful b.lawful a.whole b.whole)
+      (one_end limits (bare_of file limits.harts) (granule_of file) plan local f.history.entries other.history.entries f.last other.last a.lawful b.lawful
+      a.whole b.whole)
 
   module _ (p : Partial) (f : Finished) (run : IsRun OneByOne file limits plan meets f) (partial : IsPartial OneByOne file limits plan meets p) where
     reports_begin : (on : GoesOn p.history.entries f.history.entries) → ReportsGoOn partial.kept (kept_in f)
@@ -95,11 +118,13 @@ module _ (file : List ℕ) (limits : Limits) (plan : List Turn) (meets : Option 
     output_begins on =
         let same = run.output ∙ ap (λ (es : List Entry). (state_after (bare_of file limits.harts) es).output) on.whole_is in
         subst (λ (bytes : List ℕ). BeginsWith bytes p.output) (sym same)
-        (subst (BeginsWith (state_after (bare_of file limits.harts) (p.history.entries ++ on.later)).output) (sym partial.output) (output_grows file limits.harts p.history.entries on.later))
+        (subst (BeginsWith (state_after (bare_of file limits.harts) (p.history.entries ++ on.later)).output) (sym partial.output)
+        (output_grows file limits.harts p.history.entries on.later))
 
     pub begins : 1 ≤ limits.harts → IsBeginning p f
     begins some =
-        let on = begins_whole limits (bare_of file limits.harts) (granule_of file) plan (leave_labels file limits.harts some) p.history.entries f.history.entries partial.lawful run.lawful in
+        let on = begins_whole limits (bare_of file limits.harts) (granule_of file) plan (leave_labels file limits.harts some) p.history.entries
+        f.history.entries partial.lawful run.lawful in
         record {
           entries = record { rest = on.later; whole_is = on.whole_is };
           reports = subst (BeginsWith f.reports) (sym partial.reports) (reports_begin on).reports;
@@ -110,10 +135,12 @@ module _ (file : List ℕ) (limits : Limits) (plan : List Turn) (meets : Option 
 pub nothing_is_partial : (mode : Mode) (file : List ℕ) (limits : Limits) (plan : List Turn) (meets : Option (List ℕ) → Option (List ℕ) → Bool) (p : Partial) →
     p.history.entries ≡ [] → p.reports ≡ [] → p.output ≡ [] → IsPartial mode file limits plan meets p
 nothing_is_partial mode file limits plan meets p entries none output = record {
-  lawful = subst (IsLawfulStart mode limits plan (bare_of file limits.harts) (granule_of file)) (sym entries) (no_entries mode limits (bare_of file limits.harts) (granule_of file) plan);
+  lawful = subst (IsLawfulStart mode limits plan (bare_of file limits.harts) (granule_of file)) (sym entries)
+      (no_entries mode limits (bare_of file limits.harts) (granule_of file) plan);
   kept = record { reports = []; suppressed = 0; equal = 0 };
   kept_are =
-      subst (λ (es : List Entry). AreReports limits (granule_address file) meets (moments es) (record { reports = []; suppressed = 0; equal = 0 })) (sym entries)
+      subst (λ (es : List Entry). AreReports limits (granule_address file) meets (moments es) (record { reports = []; suppressed = 0; equal = 0 }))
+      (sym entries)
       (record { found = []; found_all = reports.Start; kept_is = refl });
   reports = none;
   output = output ∙ ap (λ (es : List Entry). (state_after (bare_of file limits.harts) es).output) (sym entries);

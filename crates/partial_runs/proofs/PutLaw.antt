@@ -25,7 +25,8 @@ pub appends_nothing : (old : Option (List ℕ)) → Appends old old []
 appends_nothing None = refl
 appends_nothing (Some o) = ap Some (sym (append-nil o))
 
-appended : (old : Option (List ℕ)) (x y : List ℕ) → option_map (λ (o : List ℕ). o ++ y) (option_map (λ (o : List ℕ). o ++ x) old) ≡ option_map (λ (o : List ℕ). o ++ (x ++ y)) old
+appended : (old : Option (List ℕ)) (x y : List ℕ) →
+    option_map (λ (o : List ℕ). o ++ y) (option_map (λ (o : List ℕ). o ++ x) old) ≡ option_map (λ (o : List ℕ). o ++ (x ++ y)) old
 appended None x y = refl
 appended (Some o) x y = ap Some (append_assoc o x y)
 
@@ -61,7 +62,8 @@ texts_begin job whole start on = record {
   whole_is = ap (texts_of job) on.whole_is ∙ flat_map-append (report_text job.frame_of) start on.rest;
 }
 
-module _ (job : Job) (p : Partial) (f : Finished) (one : job.mode ≡ OneByOne) (some : 1 ≤ job.limits.harts) (run : IsRunOf job f) (partial : IsPartialOf job p) where
+module _ (job : Job) (p : Partial) (f : Finished) (one : job.mode ≡ OneByOne) (some : 1 ≤ job.limits.harts) (run : IsRunOf job f)
+    (partial : IsPartialOf job p) where
   abbrev by_one : Finished → Type 0
   by_one g = IsRun OneByOne job.file job.limits job.plan job.meets g
 
@@ -75,7 +77,8 @@ module _ (job : Job) (p : Partial) (f : Finished) (one : job.mode ≡ OneByOne) 
 
   text_begins : (text : List ℕ) → IsTextOf job p text → BeginsWith (run_text job f) text
   text_begins text (inl is) =
-      subst (BeginsWith (run_text job f)) (sym is) (begins_twice (begins_push (texts_of job f.reports) (summary_of f)) (texts_begin job f.reports p.reports beginning.reports))
+      subst (BeginsWith (run_text job f)) (sym is)
+      (begins_twice (begins_push (texts_of job f.reports) (summary_of f)) (texts_begin job f.reports p.reports beginning.reports))
   text_begins text (inr all) =
       let same = same_run job.file job.limits job.plan job.meets all.0 f some (stepped all.0 all.1) (stepped f run) in
       record { rest = []; whole_is = ap (run_text job) (sym same) ∙ (sym all.3 ∙ sym (append-nil text)) }
@@ -101,9 +104,11 @@ module _ (job : Job) (p : Partial) (before mid : Sinks) where
 
   told_more : (told : List Report) (report : Report) → texts_of job (told ++ report ∷ []) ≡ texts_of job told ++ report_text job.frame_of report
   told_more told report =
-      flat_map-append (report_text job.frame_of) told (report ∷ []) ∙ ap (λ (text : List ℕ). texts_of job told ++ text) (append-nil (report_text job.frame_of report))
+      flat_map-append (report_text job.frame_of) told (report ∷ []) ∙ ap (λ (text : List ℕ). texts_of job told ++ text)
+      (append-nil (report_text job.frame_of report))
 
-  pub put_report : IsPutSoFar job p before mid → (err : Option (List ℕ)) (count : ℕ) (report : Report) → Appends mid.err err (report_text job.frame_of report) → mid.err_faults ≤ count
+  pub put_report : IsPutSoFar job p before mid → (err : Option (List ℕ)) (count : ℕ) (report : Report) →
+      Appends mid.err err (report_text job.frame_of report) → mid.err_faults ≤ count
       → IsPutSoFar job (record p { reports = p.reports ++ report ∷ [] }) before (record mid { err = err; err_faults = count })
   put_report so err count report all later = record {
     out = so.out;
@@ -121,9 +126,11 @@ put_nothing job p before none silent = record {
   err_count = omega arith;
 }
 
-pub put_summary : (job : Job) (f : Finished) (before mid : Sinks) → IsPutSoFar job (all_rounds f) before mid → (err : Option (List ℕ)) (count : ℕ) → Appends mid.err err (summary_of f)
+pub put_summary : (job : Job) (f : Finished) (before mid : Sinks) → IsPutSoFar job (all_rounds f) before mid → (err : Option (List ℕ)) (count : ℕ) →
+    Appends mid.err err (summary_of f)
     → IsPut job f before (record mid { err = err; err_faults = count })
-put_summary job f before mid so err count all = record { out = so.out; err = appends_twice before.err mid.err err (texts_of job f.reports) (summary_of f) so.err all }
+put_summary job f before mid so err count all =
+    record { out = so.out; err = appends_twice before.err mid.err err (texts_of job f.reports) (summary_of f) so.err all }
 
 -- ---- puts that fail
 
@@ -137,9 +144,11 @@ rose_from : (before mid now : ℕ) → before ≤ mid → Rose mid now → Rose 
 rose_from before mid now l r = rose_by (2 ^ 64 - 1) before mid now l r
 
 module _ (job : Job) where
-  pub cut_in_output : (earlier p : Partial) (before mid : Sinks) (out : Option (List ℕ)) (count : ℕ) (output : List ℕ) → IsPartialOf job earlier → IsPartialOf job p →
+  pub cut_in_output : (earlier p : Partial) (before mid : Sinks) (out : Option (List ℕ)) (count : ℕ) (output : List ℕ) → IsPartialOf job earlier →
+      IsPartialOf job p →
       GoesOnByRound earlier.history.entries p.history.entries → p.output ≡ earlier.output ++ output →
-      IsPutSoFar job earlier before mid → AppendsPart mid.out out output → Rose mid.out_faults count → IsCutShort job p before (record mid { out = out; out_faults = count })
+      IsPutSoFar job earlier before mid → AppendsPart mid.out out output → Rose mid.out_faults count →
+      IsCutShort job p before (record mid { out = out; out_faults = count })
   cut_in_output earlier p before mid out count output a b round is so part rose = record {
     partial = b;
     put = inl (record {
@@ -155,7 +164,8 @@ module _ (job : Job) where
     });
   }
 
-  pub cut_in_report : (p : Partial) (before mid : Sinks) (err : Option (List ℕ)) (count : ℕ) (told : List Report) (report : Report) → IsPartialOf job p → BeginsWith p.reports (told ++ report ∷ []) →
+  pub cut_in_report : (p : Partial) (before mid : Sinks) (err : Option (List ℕ)) (count : ℕ) (told : List Report) (report : Report) → IsPartialOf job p →
+      BeginsWith p.reports (told ++ report ∷ []) →
       IsPutSoFar job (record p { reports = told }) before mid → AppendsPart mid.err err (report_text job.frame_of report) → Rose mid.err_faults count →
       IsCutShort job p before (record mid { err = err; err_faults = count })
   cut_in_report p before mid err count told report a first so part rose = record {
@@ -171,7 +181,8 @@ module _ (job : Job) where
     });
   }
 
-  pub cut_in_summary : (f : Finished) (before mid : Sinks) (err : Option (List ℕ)) (count : ℕ) → IsRunOf job f → IsPutSoFar job (all_rounds f) before mid → AppendsPart mid.err err (summary_of f) → Rose mid.err_faults count →
+  pub cut_in_summary : (f : Finished) (before mid : Sinks) (err : Option (List ℕ)) (count : ℕ) → IsRunOf job f → IsPutSoFar job (all_rounds f) before mid →
+      AppendsPart mid.err err (summary_of f) → Rose mid.err_faults count →
       IsCutShort job (all_rounds f) before (record mid { err = err; err_faults = count })
   cut_in_summary f before mid err count run so part rose = record {
     partial = whole_is_partial job.file job.limits job.plan job.meets job.mode f run;
@@ -184,7 +195,8 @@ module _ (job : Job) where
     });
   }
 
-  pub stops : (p : Partial) (before now : Sinks) (told : List Report) → IsPartialOf job p → BeginsWith p.reports told → IsPutSoFar job (record p { reports = told }) before now → IsStopped job p before now
+  pub stops : (p : Partial) (before now : Sinks) (told : List Report) → IsPartialOf job p → BeginsWith p.reports told →
+      IsPutSoFar job (record p { reports = told }) before now → IsStopped job p before now
   stops p before now told partial first so = record { partial = partial; out = so.out; told = told; told_first = first; err = so.err }
 
   -- what was put is a first part of the partial run, on each sink
@@ -192,11 +204,13 @@ module _ (job : Job) where
   cut_part p before now cut = elim cut.put [
     | inl o ↦ record {
       out = subst (AppendsPart before.out now.out) (sym o.output_is)
-          (appends_then_part before.out _ now.out o.earlier.output o.output refl (o.taken, o.out ∙ sym (appended before.out o.earlier.output (take o.taken o.output))));
+          (appends_then_part before.out _ now.out o.earlier.output o.output refl
+          (o.taken, o.out ∙ sym (appended before.out o.earlier.output (take o.taken o.output))));
       text = texts_of job p.reports;
       text_of = inl refl;
       err = part_of_longer before.err now.err (texts_of job o.earlier.reports) (texts_of job p.reports)
-          (texts_begin job p.reports o.earlier.reports (round_reports job.file job.limits job.plan job.meets job.mode o.earlier p o.earlier_is cut.partial o.last_round))
+          (texts_begin job p.reports o.earlier.reports
+          (round_reports job.file job.limits job.plan job.meets job.mode o.earlier p o.earlier_is cut.partial o.last_round))
           (part_of_all before.err now.err (texts_of job o.earlier.reports) o.err);
     }
     | inr t ↦ record { out = part_of_all before.out now.out p.output t.out; text = t.text; text_of = t.text_of; err = t.err }
@@ -212,13 +226,16 @@ module _ (job : Job) where
   }
 
 -- whatever the answer, what was put is a first part of what each run of the same puts
-pub answer_put : (job : Job) (f : Finished) (before now : Sinks) (answer : Result Finished RunFault) → job.mode ≡ OneByOne → 1 ≤ job.limits.harts → IsRunOf job f → LeavesRun job before now answer →
+pub answer_put : (job : Job) (f : Finished) (before now : Sinks) (answer : Result Finished RunFault) → job.mode ≡ OneByOne → 1 ≤ job.limits.harts →
+    IsRunOf job f → LeavesRun job before now answer →
     AppendsPart before.out now.out f.output × AppendsPart before.err now.err (run_text job f)
 answer_put job f before now (Ok other) one some run done =
     let same = same_run job.file job.limits job.plan job.meets other f some
-    (subst (λ (mode : Mode). IsRun mode job.file job.limits job.plan job.meets other) one done.0) (subst (λ (mode : Mode). IsRun mode job.file job.limits job.plan job.meets f) one run) in (
+    (subst (λ (mode : Mode). IsRun mode job.file job.limits job.plan job.meets other) one done.0)
+    (subst (λ (mode : Mode). IsRun mode job.file job.limits job.plan job.meets f) one run) in (
       part_of_all before.out now.out f.output (subst (λ (g : Finished). Appends before.out now.out g.output) same done.1.out),
       part_of_all before.err now.err (run_text job f) (subst (λ (g : Finished). Appends before.err now.err (run_text job g)) same done.1.err),
     )
 answer_put job f before now (Err (Write p)) one some run cut = part_put job p f one some run cut.partial before now (cut_part job p before now cut)
-answer_put job f before now (Err (NoMemory p)) one some run stopped = part_put job p f one some run stopped.partial before now (stopped_part job p before now stopped)
+answer_put job f before now (Err (NoMemory p)) one some run stopped = part_put job p f one some run stopped.partial before now
+    (stopped_part job p before now stopped)

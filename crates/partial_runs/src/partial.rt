@@ -19,5 +19,6 @@ pub struct Partial {
 pub enum RunFault {
     /// A put failed.
     Write(Partial),
+    /// Memory ran out.
     NoMemory(Partial),
 }
