@@ -1,5 +1,5 @@
 // The part of a round that workers make.
-ghost use Rattle.std.specs.Prelude.{◌≡◌, ◌<◌, None, ℕ, List, Bool, Option, IfOk, OnOk};
+ghost use Rattle.std.specs.Prelude.{◌≡◌, ◌<◌, ◌≤◌, None, ℕ, List, Bool, Option, IfOk, OnOk};
 ghost use Rattle.run_laws.specs.Reports.{Kept};
 ghost use Rattle.thread_turns.specs.Ranges.{AreLimits};
 ghost use Rattle.shared_table.specs.Layouts.{IsTableOf};
@@ -30,7 +30,8 @@ const WORTH_A_THREAD: usize = 2_000;
 /// How many threads of the host, of at most so many, so many workers with that share each are worth: two at least.
 fn worth_starting(workers: usize, share: u32, most: usize) -> usize
     requires { 0 < most }
-    ensures { 0 < result }
+    ensures some { 0 < result }
+    ensures most { result ≤ most }
 {
     let due = workers.saturating_mul(share as usize);
     (due / WORTH_A_THREAD).max(2).min(most)
