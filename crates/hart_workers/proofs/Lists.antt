@@ -1,5 +1,5 @@
 -- Lists with one element more.
-use Rattle.std.proofs.Common.{◌≡◌, ◌≢◌, ◌<◌, ◌+◌, max, ℕ, List, [], ◌∷◌, ◌++◌, length, take, drop, zero, suc, ◌≤◌, Some, inl, inr, refl, sym, ap, ◌∙◌, arith}
+use Rattle.std.proofs.Common.{◌≡◌, ◌≢◌, ◌<◌, ◌+◌, ℕ, List, [], ◌∷◌, ◌++◌, drop, zero, suc, Some, inl, inr, refl, ap, ◌∙◌, arith}
 use Rattle.std.specs.Prelude.{◌⊎◌, slice_get, Option, None, option_map}
 use Rattle.run_record.specs.declared.entry.Entry.{Entry}
 use Rattle.run_record.specs.declared.flat.Head.{Head}
@@ -41,7 +41,7 @@ apart_then ts n o f = order_then (λ (t u : ℕ). t ≢ u) ts n o (λ t i e. let
 -- ---- entries
 
 -- the first of the entries from that number on
-pub drop_first : (es : List Entry) (n : ℕ) (e : Entry) → slice_get es n ≡ Some e → drop n es ≡ e ∷ drop (n + 1) es
+pub drop_first : (es : List Entry) (n : ℕ) (e : Entry) → slice_get es n ≡ Some e → drop n es ≡ e ∷ drop (suc n) es
 drop_first [] n e is = absurd cc
 drop_first (x ∷ es) zero e is = let same : x ≡ e = cc in ap (λ (y : Entry). y ∷ es) same
 drop_first (x ∷ es) (suc n) e is = drop_first es n e is
@@ -60,4 +60,5 @@ headed es n h is = found (slice_get es n) refl is
     found None at e = absurd cc
     found (Some entry) at e =
         let same : head_of entry ≡ h = cc in
-        record { entry = entry; front = drop_first es n entry at; stamp_is = ap (λ (x : Head). x.stamp) same; steps_are = ap (λ (x : Head). x.steps) same }
+        let next : suc n ≡ n + 1 = omega arith in
+        record { entry = entry; front = drop_first es n entry at ∙ ap (λ (k : ℕ). entry ∷ drop k es) next; stamp_is = ap (λ (x : Head). x.stamp) same; steps_are = ap (λ (x : Head). x.steps) same }

@@ -1,5 +1,5 @@
 -- What is read of the desk between two rounds.
-use Rattle.std.specs.Prelude.{◌≡◌, ◌↔◌, ◌<◌, ℕ, List, length, None, Some}
+use Rattle.std.specs.Prelude.{◌≡◌, ◌↔◌, ◌<◌, ℕ, length, None, Some}
 use Rattle.run_record.specs.declared.finished.GuestEnd.{GuestEnd}
 use Rattle.run_record.specs.declared.limits.Limits.{Limits}
 use Rattle.slot_desk.specs.Desks.{live_of}
