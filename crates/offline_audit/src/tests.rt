@@ -1,6 +1,5 @@
 // Orders of random histories, beside a plain closure of the pairs that order two events.
-ghost use Rattle.std.specs.Prelude.{◌≡◌, ◌<◌, ◌≤◌, ◌+◌, ◌++◌, ◌∷◌, [], length, OnOk, IfOk};
-ghost use Rattle.run_record.specs.Flat.{entry_of};
+ghost use Rattle.std.specs.Prelude.{◌<◌};
 
 use crate::{EventName, Order};
 use run_record::{DeskNote, Entries, Event, Head, NoMemory, Part, Record};
