@@ -11,6 +11,7 @@ mod plans;
 mod random;
 mod refusals;
 mod reports;
+mod rounds;
 mod threads;
 mod words;
 
@@ -20,7 +21,7 @@ use std::process::Abort;
 use std::sync::Wait;
 use std::test::Fail;
 use std::thread::Threads;
-use tool_ports::{MemoryFiles, MemorySink, OpenGate};
+use tool_ports::{Gate, MemoryFiles, MemorySink, OpenGate};
 use tsanrun_cli::{Ended, tool, tool_step};
 
 /// What a call of the command leaves.
@@ -81,19 +82,29 @@ fn call_words(alloc: Global, given: &[String], ports: &Ports<'_>) -> Result<Answ
     Ok(Answer { out, err, ended })
 }
 
-/// Calls the command that also runs threads at once.
+/// Calls the command that also runs threads at once, which that gate holds back.
+fn call_gated<R: Threads + Wait + Sync, G: Gate + Sync>(
+    rt: &R,
+    alloc: Global,
+    given: &[String],
+    ports: &Ports<'_>,
+    gate: &G,
+) -> Result<Answer, Fail> {
+    let mut files = files_of(alloc, ports)?;
+    let mut out = MemorySink::new(alloc, ROOM, &[])?;
+    let mut err = MemorySink::new(alloc, ROOM, ports.failing_puts)?;
+    let ended = tool(rt, alloc, given, &mut files, &mut out, &mut err, gate);
+    Ok(Answer { out, err, ended })
+}
+
+/// The same with nobody held back.
 fn call_whole<R: Threads + Wait + Sync>(
     rt: &R,
     alloc: Global,
     given: &[String],
     ports: &Ports<'_>,
 ) -> Result<Answer, Fail> {
-    let mut files = files_of(alloc, ports)?;
-    let mut out = MemorySink::new(alloc, ROOM, &[])?;
-    let mut err = MemorySink::new(alloc, ROOM, ports.failing_puts)?;
-    let gate = OpenGate;
-    let ended = tool(rt, alloc, given, &mut files, &mut out, &mut err, &gate);
-    Ok(Answer { out, err, ended })
+    call_gated(rt, alloc, given, ports, &OpenGate)
 }
 
 /// Looks at both sinks and at the status.
@@ -193,17 +204,74 @@ fn told(alloc: Global, row: &Row<'_>) -> Result<String, AllocError> {
     Ok(text)
 }
 
-fn check_row<R: Abort>(rt: &R, alloc: Global, row: &Row<'_>) -> Result<(), Fail> {
-    let file = assemble(alloc, row.program, &row.form)?;
-    let mut words = vec![in alloc; "step", "p"]?;
-    words.extend_from_slice(row.options)?;
-    let ports = Ports {
-        file: &file,
-        rules: row.rules.as_bytes(),
+/// The words of a row's call by that command.
+fn words_by(alloc: Global, command: &str, row: &Row<'_>) -> Result<Vec<String>, AllocError> {
+    let mut words = Vec::new(alloc);
+    words.push(String::from_str(alloc, command)?)?;
+    words.push(String::from_str(alloc, "p")?)?;
+    for option in row.options {
+        words.push(String::from_str(alloc, option)?)?;
+    }
+    Ok(words)
+}
+
+/// The files of a row's call.
+fn ports_by<'a>(file: &'a [u8], rules: &'a str) -> Ports<'a> {
+    Ports {
+        file,
+        rules: rules.as_bytes(),
         failing_reads: &[],
         failing_puts: &[],
-    };
-    let answer = call_over(alloc, &words, &ports)?;
+    }
+}
+
+/// Looks at what a row's call wrote and answered.
+fn check_answer<R: Abort>(
+    rt: &R,
+    alloc: Global,
+    row: &Row<'_>,
+    answer: &Answer,
+) -> Result<(), Fail> {
     let told = told(alloc, row)?;
-    check(rt, alloc, &answer, row.out, told.as_str(), row.status)
+    check(rt, alloc, answer, row.out, told.as_str(), row.status)
+}
+
+/// A row by `step`.
+fn check_row<R: Abort>(rt: &R, alloc: Global, row: &Row<'_>) -> Result<(), Fail> {
+    let file = assemble(alloc, row.program, &row.form)?;
+    let words = words_by(alloc, "step", row)?;
+    let answer = call_words(alloc, &words, &ports_by(&file, row.rules))?;
+    check_answer(rt, alloc, row, &answer)
+}
+
+/// Calls `run` for a row, whose threads that gate holds back.
+fn call_row<R: Threads + Wait + Sync, G: Gate + Sync>(
+    rt: &R,
+    alloc: Global,
+    row: &Row<'_>,
+    gate: &G,
+) -> Result<Answer, Fail> {
+    let file = assemble(alloc, row.program, &row.form)?;
+    let words = words_by(alloc, "run", row)?;
+    call_gated(rt, alloc, &words, &ports_by(&file, row.rules), gate)
+}
+
+/// A row by `run`.
+fn check_at_once<R: Abort + Threads + Wait + Sync>(
+    rt: &R,
+    alloc: Global,
+    row: &Row<'_>,
+) -> Result<(), Fail> {
+    let answer = call_row(rt, alloc, row, &OpenGate)?;
+    check_answer(rt, alloc, row, &answer)
+}
+
+/// A row whose answer no schedule changes, by both commands.
+fn check_both<R: Abort + Threads + Wait + Sync>(
+    rt: &R,
+    alloc: Global,
+    row: &Row<'_>,
+) -> Result<(), Fail> {
+    check_row(rt, alloc, row)?;
+    check_at_once(rt, alloc, row)
 }

@@ -63,6 +63,7 @@ fn racing_pairs_are_told_by_name(rt: HostRuntime) -> Result<(), Fail> {
     let program = "main: N(a) E(write8,0) T; a: E(write8,0) T";
     let file = assemble(alloc, program, &Form::NAMED)?;
     let answer = call(alloc, &["audit", "p"], &file)?;
-    let out = b"race: main ??:0 (0x0000000000010028) / a ??:0 (0x0000000000010054)\naudit: 1 pairs\n";
+    let out =
+        b"race: main ??:0 (0x0000000000010028) / a ??:0 (0x0000000000010054)\naudit: 1 pairs\n";
     check(&rt, alloc, &answer, out, "", 66)
 }

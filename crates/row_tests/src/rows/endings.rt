@@ -129,7 +129,7 @@ static ENDINGS: [Row<'static>; 19] = [
 #[test]
 fn runs_end(rt: HostRuntime) -> Result<(), Fail> {
     for row in ENDINGS.iter() {
-        check_row(&rt, rt.alloc(), row)?;
+        check_both(&rt, rt.alloc(), row)?;
     }
     Ok(())
 }
@@ -142,7 +142,7 @@ fn a_budget_is_spent(rt: HostRuntime) -> Result<(), Fail> {
         status: 8,
         ..ROW
     };
-    check_row(&rt, rt.alloc(), &row)
+    check_both(&rt, rt.alloc(), &row)
 }
 
 #[test]

@@ -83,7 +83,7 @@ fn row_of<'a>(has_lines: bool, debug: &'a [(DebugSection, &'a [u8])]) -> Row<'a>
 #[test]
 fn paths_stand_in_the_unit_or_in_sections(rt: HostRuntime) -> Result<(), Fail> {
     for (has_lines, debug) in UNITS.iter() {
-        check_row(&rt, rt.alloc(), &row_of(*has_lines, *debug))?;
+        check_both(&rt, rt.alloc(), &row_of(*has_lines, *debug))?;
     }
     Ok(())
 }
@@ -123,7 +123,7 @@ fn malformed_units_have_no_lines(rt: HostRuntime) -> Result<(), Fail> {
             *byte = *value;
         }
         let debug = [(DebugSection::Line, lines.as_slice())];
-        check_row(&rt, rt.alloc(), &row_of(false, debug.as_slice()))?;
+        check_both(&rt, rt.alloc(), &row_of(false, debug.as_slice()))?;
     }
     Ok(())
 }

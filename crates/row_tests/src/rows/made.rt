@@ -221,5 +221,5 @@ fn many_checks_end_in_time(rt: HostRuntime) -> Result<(), Fail> {
         status: 8,
         ..ROW
     };
-    check_row(&rt, rt.alloc(), &row)
+    check_both(&rt, rt.alloc(), &row)
 }

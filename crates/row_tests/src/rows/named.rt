@@ -63,7 +63,7 @@ static NAMED: [Row<'static>; 3] = [
 #[test]
 fn places_have_names_and_lines(rt: HostRuntime) -> Result<(), Fail> {
     for row in NAMED.iter() {
-        check_row(&rt, rt.alloc(), row)?;
+        check_both(&rt, rt.alloc(), row)?;
     }
     Ok(())
 }
@@ -132,7 +132,7 @@ static SUPPRESSED: [Row<'static>; 8] = [
 #[test]
 fn rules_suppress_reports(rt: HostRuntime) -> Result<(), Fail> {
     for row in SUPPRESSED.iter() {
-        check_row(&rt, rt.alloc(), row)?;
+        check_both(&rt, rt.alloc(), row)?;
     }
     Ok(())
 }
@@ -155,7 +155,7 @@ fn other_reports_are_told_beside_suppressed_ones(rt: HostRuntime) -> Result<(), 
         status: 66,
         ..ROW
     };
-    check_row(&rt, rt.alloc(), &row)
+    check_both(&rt, rt.alloc(), &row)
 }
 
 const LOOPS: &str =
@@ -191,7 +191,7 @@ static SIXTY: [Row<'static>; 2] = [
 #[test]
 fn each_race_of_a_suppressed_pair_is_counted(rt: HostRuntime) -> Result<(), Fail> {
     for row in SIXTY.iter() {
-        check_row(&rt, rt.alloc(), row)?;
+        check_both(&rt, rt.alloc(), row)?;
     }
     Ok(())
 }

@@ -5,7 +5,7 @@ use run_record::{DeskNote, GuestEnd};
 const RESERVING: &str =
     "main: N(a) lui x8,0x1000 lr.d x0,(x8) addi x9,x0,7 sc.d x10,x9,(x8) ld x9,0(x8) add x10,x10,x9 Q X(0); a: lui x8,0x1000 addi x9,x0,32 sb x9,0(x8) T";
 
-static TURNS: [Row<'static>; 6] = [
+static LIMITS: [Row<'static>; 3] = [
     // No second thread may live: create answers -11.
     Row {
         program: "main: N(a) Q X(0); a: T",
@@ -22,6 +22,23 @@ static TURNS: [Row<'static>; 6] = [
         status: 8,
         ..ROW
     },
+    // Spent slots are left, and the thread goes on in another.
+    Row {
+        program: LEAVING,
+        options: &["--epochs=2"],
+        ..ROW
+    },
+];
+
+#[test]
+fn limits_count(rt: HostRuntime) -> Result<(), Fail> {
+    for row in LIMITS.iter() {
+        check_both(&rt, rt.alloc(), row)?;
+    }
+    Ok(())
+}
+
+static TURNS: [Row<'static>; 3] = [
     // The other thread stores a byte between LR and SC: SC answers 1, and the byte stays.
     Row {
         program: RESERVING,
@@ -46,16 +63,10 @@ static TURNS: [Row<'static>; 6] = [
         summary: (0, 0, 0, 2, "exit 0"),
         ..ROW
     },
-    // Spent slots are left, and the thread goes on in another.
-    Row {
-        program: LEAVING,
-        options: &["--epochs=2"],
-        ..ROW
-    },
 ];
 
 #[test]
-fn plans_and_limits_count(rt: HostRuntime) -> Result<(), Fail> {
+fn plans_count(rt: HostRuntime) -> Result<(), Fail> {
     for row in TURNS.iter() {
         check_row(&rt, rt.alloc(), row)?;
     }
@@ -150,7 +161,7 @@ static WINDOWS: [Row<'static>; 2] = [
 #[test]
 fn short_traces_lose_stacks(rt: HostRuntime) -> Result<(), Fail> {
     for row in WINDOWS.iter() {
-        check_row(&rt, rt.alloc(), row)?;
+        check_both(&rt, rt.alloc(), row)?;
     }
     Ok(())
 }

@@ -49,13 +49,16 @@ fn two_writes_are_told_byte_for_byte(rt: HostRuntime) -> Result<(), Fail> {
     let file = assemble(alloc, RACING.program, &Form::PLAIN)?;
     let answer = call(alloc, &["step", "p"], &file)?;
     check(&rt, alloc, &answer, b"", RACING_TEXT, 66)?;
+    let words = words_by(alloc, "run", &RACING)?;
+    let at_once = call_whole(&rt, alloc, &words, &ports_by(&file, ""))?;
+    check(&rt, alloc, &at_once, b"", RACING_TEXT, 66)?;
     let text = told(alloc, &RACING)?;
     assert_eq!(rt; text.as_str(), RACING_TEXT);
     Ok(())
 }
 
 /// What is ordered, and what races.
-static ACCESSES: [Row<'static>; 13] = [
+static ACCESSES: [Row<'static>; 12] = [
     RACING,
     // Creating a thread orders what stands before it.
     Row {
@@ -146,19 +149,6 @@ static ACCESSES: [Row<'static>; 13] = [
         status: 66,
         ..ROW
     },
-    // A race of the same two stacks is told once.
-    Row {
-        program: "main: N(a) N(a) E(write8,0) T; a: E(write8,0) T",
-        races: &[Race {
-            mine: BY_T1,
-            stack: &[(UNKNOWN, 0x10064)],
-            previous: BY_MAIN,
-            previous_stack: &[(UNKNOWN, 0x10038)],
-        }],
-        summary: (1, 0, 1, 3, "all ended"),
-        status: 66,
-        ..ROW
-    },
     // A relaxed store takes back what an earlier store released.
     Row {
         program: "main: N(a) E(write8,0) E(atomic64_store,8,1,3) E(atomic64_store,8,2,0) T; a: E(atomic64_load,8,2) E(read8,0) T",
@@ -183,9 +173,27 @@ static ACCESSES: [Row<'static>; 13] = [
 #[test]
 fn ordered_and_racing_accesses_are_told(rt: HostRuntime) -> Result<(), Fail> {
     for row in ACCESSES.iter() {
-        check_row(&rt, rt.alloc(), row)?;
+        check_both(&rt, rt.alloc(), row)?;
     }
     Ok(())
+}
+
+/// A race of the same two stacks is told once. Threads at once find it in one order or the other.
+#[test]
+fn equal_races_are_told_once(rt: HostRuntime) -> Result<(), Fail> {
+    let row = Row {
+        program: "main: N(a) N(a) E(write8,0) T; a: E(write8,0) T",
+        races: &[Race {
+            mine: BY_T1,
+            stack: &[(UNKNOWN, 0x10064)],
+            previous: BY_MAIN,
+            previous_stack: &[(UNKNOWN, 0x10038)],
+        }],
+        summary: (1, 0, 1, 3, "all ended"),
+        status: 66,
+        ..ROW
+    };
+    check_row(&rt, rt.alloc(), &row)
 }
 
 static LOCKS: [Row<'static>; 4] = [
@@ -245,7 +253,7 @@ static LOCKS: [Row<'static>; 4] = [
 #[test]
 fn kept_locks_are_told(rt: HostRuntime) -> Result<(), Fail> {
     for row in LOCKS.iter() {
-        check_row(&rt, rt.alloc(), row)?;
+        check_both(&rt, rt.alloc(), row)?;
     }
     Ok(())
 }
@@ -254,7 +262,7 @@ fn kept_locks_are_told(rt: HostRuntime) -> Result<(), Fail> {
 const CALLED_AT: u64 = 0x1000100;
 
 /// Looks at a race of the main thread's access under so many frames, and a later one of a second thread.
-fn check_depth<R: Abort>(
+fn check_depth<R: Abort + Threads + Wait + Sync>(
     rt: &R,
     alloc: Global,
     program: &str,
@@ -278,7 +286,7 @@ fn check_depth<R: Abort>(
         status: 66,
         ..ROW
     };
-    check_row(rt, alloc, &row)
+    check_both(rt, alloc, &row)
 }
 
 #[test]

@@ -45,13 +45,13 @@ static THREADS: [Row<'static>; 6] = [
 #[test]
 fn threads_and_calls_do_as_they_say(rt: HostRuntime) -> Result<(), Fail> {
     for row in THREADS.iter() {
-        check_row(&rt, rt.alloc(), row)?;
+        check_both(&rt, rt.alloc(), row)?;
     }
     Ok(())
 }
 
 // Four threads add 1,000 each to one word under a spin lock.
-const COUNTER: &str = "
+pub const COUNTER: &str = "
 main:   addi x8,x0,3
 m1:     N(child)
         addi x8,x8,-1

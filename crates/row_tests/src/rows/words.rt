@@ -44,7 +44,7 @@ static REFUSED: [(&[&str], UsageFault); 15] = [
     (&["step", "p", "q"], UsageFault::Words),
     (&["--help"], UsageFault::Words),
     (&["stop", "p", "--harts=0"], UsageFault::Command),
-    // Threads can't run at once yet.
+    // It has no threads that run at once.
     (&["run", "p"], UsageFault::Command),
     (&["step", "--harts=0"], UsageFault::File),
     (&["run"], UsageFault::File),
