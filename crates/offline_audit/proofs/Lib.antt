@@ -12,3 +12,4 @@ pub mod GroupLaw
 pub mod RaceLaw
 pub mod NameLaw
 pub mod FoundLaw
+pub mod FirstLaw

@@ -7,3 +7,4 @@ pub mod Pairs
 pub mod Chains
 pub mod Kinds
 pub mod Groups
+pub mod Firsts
