@@ -1,15 +1,17 @@
 -- The first two events of two chains that are in no order.
-use Rattle.std.proofs.Common.{◌≡◌, ℕ, suc, ◌+◌, ◌<◌, ◌≤◌, ◌⊎◌, List, length, sym, ap, ◌∙◌, subst, inl, inr, arith, Contains}
-use Rattle.std.specs.Prelude.{slice_index_or}
+use Rattle.std.proofs.Common.{◌≡◌, ℕ, suc, ◌+◌, ◌-◌, ◌<◌, ◌≤◌, ◌⊎◌, List, length, take, Option, Some, None, sym, ap, ◌∙◌, subst, inl, inr, arith, Contains}
+use Rattle.std.specs.Prelude.{slice_index_or, slice_get}
 use Rattle.std.proofs.lemmas.Bool.{cases_eq, cases_lt}
-use Rattle.std.proofs.lemmas.List.{get_or_default}
+use Rattle.std.proofs.lemmas.List.{get_or_default, get_or-take, length-take-le}
+use Rattle.std.proofs.lemmas.List.Elements.{Contains-get_or}
+use Rattle.std.proofs.lemmas.Option.{slice_get_within, get_or_from_slice_get}
 use Rattle.run_record.specs.declared.entry.Entry.{Entry}
 use Rattle.run_laws.specs.Moments.{Item}
 use Rattle.run_laws.specs.HappensBefore.{HappensBefore, Pair, One, Then, Program, Released, Created, Joined}
 use Rattle.offline_audit.specs.declared.order.EventName.{EventName}
 use Rattle.offline_audit.specs.declared.earliest.Apart.{Apart}
-use Rattle.offline_audit.specs.Chains.{position_of, ComesBefore, IsChain, AreOrdered}
-use Rattle.offline_audit.specs.Firsts.{AreElsewhere, AreUnordered, ComesFirst, IsUptoOf, IsFirstNot, IsFirstOf, IsNext, AreMerged}
+use Rattle.offline_audit.specs.Chains.{position_of, IsEvent, ComesBefore, IsChain, AreOrdered}
+use Rattle.offline_audit.specs.Firsts.{AreElsewhere, AreUnordered, ComesFirst, IsUptoOf, IsFirstNot, IsFirstUnordered, IsFirstOf, IsNext, AreMerged, IsMergedOrApart}
 
 pair_less : (h : ℕ → Item) (i j : ℕ) → Pair h i j → i < j
 pair_less h i j (Program t e f l m n) = l
@@ -75,7 +77,7 @@ module _ (h : ℕ → Item) (entries : List Entry) where
   }
 
   module _ (xs ys : List EventName) (i j : ℕ) (l : i < length xs) (chain : IsChain h entries xs) (other : IsChain h entries ys)
-  (merged : AreMerged h entries xs ys i j) (next : IsNext entries xs i ys j) where
+      (merged : AreMerged h entries xs ys i j) (next : IsNext entries xs i ys j) where
     -- one more event, before which all earlier ones of the other chain happen
     pub one_merged : ((b : ℕ) (d e : EventName) → b < j → b < length ys → ComesBefore h entries (slice_index_or ys b e) (slice_index_or xs i d)) →
         AreMerged h entries xs ys (i + 1) j
@@ -92,8 +94,8 @@ module _ (h : ℕ → Item) (entries : List Entry) where
     }
 
     module _ (later earlier : EventName) (k : ℕ) (is : (d : EventName) → slice_index_or xs i d ≡ later) (kj : k < j) (ky : k < length ys)
-    (at : (d : EventName) → slice_index_or ys k d ≡ earlier) (apart : ComesBefore h entries earlier later → ⊥)
-    (rest : (b : ℕ) (d : EventName) → b < k → ComesBefore h entries (slice_index_or ys b d) later) where
+        (at : (d : EventName) → slice_index_or ys k d ≡ earlier) (apart : ComesBefore h entries earlier later → ⊥)
+        (rest : (b : ℕ) (d : EventName) → b < k → ComesBefore h entries (slice_index_or ys b d) later) where
       stands : pos earlier < pos later
       stands =
           let a = merged.above i k later earlier (omega arith) l kj ky in
@@ -141,11 +143,11 @@ module _ (h : ℕ → Item) (entries : List Entry) where
           ]
         where
           least : (b : ℕ) (y : EventName) → b < length ys → slice_index_or ys b y ≡ y → (ComesBefore h entries y later → ⊥) → pos earlier ≤ pos y
-          least b y lb eb no =
+          least b y lb eb never =
               let py = ap pos eb in
               let q = ap pos (at y) in
               elim (cases_lt b k) [
-                | inl c ↦ absurd (no (subst (λ (z : EventName). ComesBefore h entries z later) eb (rest b y c)))
+                | inl c ↦ absurd (never (subst (λ (z : EventName). ComesBefore h entries z later) eb (rest b y c)))
                 | inr c ↦ elim (cases_eq b k) [
                   | inl s ↦ let r = ap (λ (z : ℕ). pos (slice_index_or ys z y)) s in omega arith
                   | inr n ↦ let r = chain_less ys other k b y y (omega arith) lb in omega arith
@@ -163,3 +165,70 @@ module _ (h : ℕ → Item) (entries : List Entry) where
         };
         first = λ x y (a, la, ea) (b, lb, eb) u. first_here a b x y la lb ea eb u;
       }
+
+-- what the last event of a chain happens before, all do
+pub all_before : (h : ℕ → Item) (entries : List Entry) (names : List EventName) (last name : EventName) → Some last ≡ slice_get names (length names - 1) →
+    IsChain h entries names → ComesBefore h entries last name → (k : ℕ) (d : EventName) → k < length names → ComesBefore h entries (slice_index_or names k d) name
+all_before h entries names last name is chain r k d l =
+    let within = slice_get_within names (length names - 1) last (sym is) in
+    let at : slice_index_or names (length names - 1) d ≡ last =
+    get_or_default names (length names - 1) d last within ∙ get_or_from_slice_get names (length names - 1) last last (sym is) in
+    let end : ComesBefore h entries (slice_index_or names (length names - 1) d) name = subst (λ (z : EventName). ComesBefore h entries z name) (sym at) r in
+    elim (cases_eq k (length names - 1)) [
+      | inl q ↦ rw q end
+      | inr n ↦ Then (chain.follow k (length names - 1) d (omega arith) (omega arith)) end
+    ]
+
+-- the last event of a chain is one
+pub last_event : (h : ℕ → Item) (entries : List Entry) (names : List EventName) (last : EventName) → Some last ≡ slice_get names (length names - 1) →
+    IsChain h entries names → IsEvent h entries last
+last_event h entries names last is chain =
+    let within = slice_get_within names (length names - 1) last (sym is) in
+    subst (IsEvent h entries) (get_or_from_slice_get names (length names - 1) last last (sym is)) (chain.events (length names - 1) last within)
+
+-- the first events of a chain are one
+pub chain_take : (h : ℕ → Item) (entries : List Entry) (j : ℕ) (names : List EventName) → j ≤ length names → IsChain h entries names → IsChain h entries (take j names)
+chain_take h entries j names m chain =
+    let q = length-take-le j names m in
+    record {
+      events = λ k d l. subst (IsEvent h entries) (sym (get_or-take j names k d (omega arith))) (chain.events k d (omega arith));
+      follow = λ i k d l u.
+          subst (λ (z : EventName). ComesBefore h entries z (slice_index_or (take j names) k d)) (sym (get_or-take j names i d (omega arith)))
+          (subst (λ (z : EventName). ComesBefore h entries (slice_index_or names i d) z) (sym (get_or-take j names k d (omega arith))) (chain.follow i k d l (omega arith)));
+    }
+
+abbrev pub none : EventName
+none = record { entry = 0; event = 0 }
+
+module _ (h : ℕ → Item) (entries : List Entry) (xs ys : List EventName) (i j : ℕ) (l : i < length xs) (m : j ≤ length ys) (chain : IsChain h entries xs)
+    (other : IsChain h entries ys) (merged : AreMerged h entries xs ys i j) (next : IsNext entries xs i ys j) (later : EventName) (is : later ≡ slice_index_or xs i none) where
+  -- what the search among the events before the next one tells
+  pub merged_or : (o : Option EventName) → IsFirstUnordered h entries (take j ys) later o →
+      IsMergedOrApart h entries xs ys i j (elim o [ None ↦ None | Some earlier ↦ Some (record { later = later; earlier = earlier }) ])
+  merged_or None all =
+      one_merged h entries xs ys i j l chain other merged next (λ b d e u w.
+      let q = length-take-le j ys m in
+      let here : slice_index_or xs i d ≡ later = get_or_default xs i d none l ∙ sym is in
+      subst (λ (z : EventName). ComesBefore h entries (slice_index_or ys b e) z) (sym here)
+      (subst (λ (z : EventName). ComesBefore h entries z later) (get_or-take j ys b e u) (all b e (omega arith))))
+  merged_or (Some earlier) f =
+      let q = length-take-le j ys m in
+      let w = f.within in
+      found_first h entries xs ys i j l chain other merged next later earlier f.at (λ d. get_or_default xs i d none l ∙ sym is) (omega arith) (omega arith)
+      (λ d. sym (get_or-take j ys f.at d (omega arith)) ∙ f.is d) f.not_before
+      (λ b d u. subst (λ (z : EventName). ComesBefore h entries z later) (get_or-take j ys b d (omega arith)) (f.rest b d u))
+
+-- where the one event doesn't stand before the other, that one does
+pub turned_less : (entries : List Entry) (xs ys : List EventName) (i j : ℕ) → AreElsewhere entries xs ys → i < length xs → j < length ys →
+    (position_of entries (slice_index_or xs i none) < position_of entries (slice_index_or ys j none) → ⊥) →
+    position_of entries (slice_index_or ys j none) < position_of entries (slice_index_or xs i none)
+turned_less entries xs ys i j apart l m not =
+    let x = slice_index_or xs i none in
+    let y = slice_index_or ys j none in
+    elim (cases_lt (position_of entries x) (position_of entries y)) [
+      | inl b ↦ absurd (not b)
+      | inr b ↦ elim (cases_eq (position_of entries x) (position_of entries y)) [
+        | inl q ↦ absurd (apart x y (Contains-get_or xs i none l) (Contains-get_or ys j none m) q)
+        | inr n ↦ omega arith
+      ]
+    ]

@@ -13,3 +13,4 @@ pub mod RaceLaw
 pub mod NameLaw
 pub mod FoundLaw
 pub mod FirstLaw
+pub mod NamePlaces

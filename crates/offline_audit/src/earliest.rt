@@ -66,13 +66,7 @@ fn is_next(xs: &[EventName], i: usize, ys: &[EventName], j: usize) -> bool
 
 /// The first chain's event at i, which comes next, with the first one of the second chain's j events before it that is in no order
 /// with it.
-fn apart_at(
-    order: &Order,
-    xs: &[EventName],
-    i: usize,
-    ys: &[EventName],
-    j: usize,
-) -> Option<Apart>
+fn apart_at(order: &Order, xs: &[EventName], i: usize, ys: &[EventName], j: usize) -> Option<Apart>
     requires within { i < length xs.now }
     requires passed { j ≤ length ys.now }
     ensures { (h : ℕ → Item) (entries : List Entry) → TellsOrder h entries order.now → IsChain h entries xs.now
