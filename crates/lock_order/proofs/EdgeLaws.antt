@@ -29,10 +29,12 @@ use Rattle.run_laws.specs.Stacks.{kept_locks, locks_after, event_by}
 use Rattle.run_laws.specs.Present.{locks_now}
 use Rattle.run_laws.proofs.PresentLaw.{locks_stay, locks_now-push}
 use Rattle.lock_order.specs.declared.edge.Edge.{Edge}
-use Rattle.lock_order.specs.declared.held.Held.{Held}
+use Rattle.kept_locks.specs.declared.held.Held.{Held}
+use Rattle.kept_locks.specs.Held.{locks_by, GoOnBy}
+use Rattle.kept_locks.proofs.HeldLaws.{locks_by-push}
+use Rattle.kept_locks.proofs.KeptLaws.{event_locks}
 use Rattle.lock_order.specs.Edges.{has_address, takes, taker_by, taker, pair_order, ends, IsEdge, AreEdges}
-use Rattle.lock_order.proofs.HeldLaws.{locks_by-push}
-use Rattle.lock_order.specs.Held.{locks_by, GoOnBy, first_by, or_else, IsFirst, Follows, edge_of}
+use Rattle.lock_order.specs.Found.{first_by, or_else, IsFirst, Follows, edge_of}
 
 abbrev past : Moment
 past = record { entry = 0; round = 0; item = Past; checks = [] }
@@ -80,14 +82,6 @@ first-push h m x y None None never e = λ n. elim (cases_order n (length h)) [
 or_none : (o : Option ℕ) → or_else o None ≡ o
 or_none None = refl
 or_none (Some x) = refl
-
-one_event : (b : Bool) (e : Event) (ls : List KeptLock) → cond b (locks_after ls e) ls ≡ fold locks_after ls (cons_option (cond b (Some e) None) [])
-one_event true e ls = refl
-one_event false e ls = refl
-
-event_locks : (t u : ℕ) (e : Event) (ls : List KeptLock) →
-    (if t == u then locks_after ls e else ls) ≡ fold locks_after ls (filter_map (λ (k : Item). event_by u k) (Does t e ∷ []))
-event_locks t u e ls = one_event (t == u) e ls
 
 -- one more event
 pub follows-event : (h : List Moment) (m : Moment) (t : ℕ) (e : Event) (held now : List Held) (found new : BTreeMap (ℕ × ℕ) ℕ) → m.item ≡ Does t e →
@@ -376,3 +370,9 @@ are_edges h held found es f ordered is = subst (AreEdges h) (sym is) (record {
       contains-edge found.entries (entry_of e) ((btree_map_get_iff pair_total pair_exact found ordered (e.from, e.to) e.tid).0
       (some_first h e (first_by found e.from e.to) edge (f.first e.from e.to)));
 })
+
+-- an event that takes no lock
+pub no_lock : (found : Option ℕ) (t x y : ℕ) (ls : List KeptLock) (e : Event) → ((addr : ℕ) (read : Bool) → e ≡ Lock addr read → ⊥) →
+    found ≡ or_else found (if takes x y ls e then Some t else None)
+no_lock found t x y ls (Lock addr read) other = absurd (other addr read refl)
+no_lock found t x y ls _ other = sym (or_none found)

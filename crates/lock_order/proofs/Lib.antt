@@ -1,4 +1,3 @@
-pub mod HeldLaws
 pub mod EdgeLaws
 pub mod WayLaws
 pub mod KnotLaws

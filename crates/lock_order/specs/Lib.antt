@@ -1,5 +1,5 @@
 pub mod Edges
-pub mod Held
+pub mod Found
 pub mod Texts
 pub mod Cycles
 pub mod Knots

@@ -3,9 +3,9 @@ ghost use Rattle.std.specs.Prelude.{◌≡◌, IfOk, map};
 ghost use Rattle.std.specs.BTreeMap.{IsOrdered};
 ghost use Rattle.run_laws.specs.Moments.{moments};
 ghost use Rattle.lock_order.specs.Edges.{AreEdges, pair_order};
-ghost use Rattle.lock_order.specs.Held.{edge_of};
+ghost use Rattle.lock_order.specs.Found.{edge_of};
 
-use crate::held::{Found, note_entry};
+use crate::found::{Found, note_entry};
 use run_record::{Items, NoMemory, Record};
 use std::alloc::{AllocError, Global};
 

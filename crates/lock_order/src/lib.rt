@@ -1,7 +1,7 @@
 //! The order in which threads take mutexes. Where it has a cycle, another run may end in a deadlock.
 //!
 //! Below stand `run_record`, with histories, `run_laws`, with the locks that a thread keeps at each moment,
-//! `trace_parts`, whose laws of such locks the proofs use, `report_text`, whose words for an address and a
+//! `kept_locks`, which keeps those of all threads while a history goes on, `report_text`, whose words for an address and a
 //! thread are used, and `graph_search`, whose `knots` are those of mutexes and whose `distances` those of shortest ways from
 //! one mutex to another. `edges` lists each pair of mutexes of which one was taken while the other was kept; `cycles` gives
 //! for each knot of them, a set of which each reaches each, its first shortest cycle; `cycle_text` writes one, and
@@ -10,7 +10,7 @@
 
 mod cycle;
 mod edge;
-mod held;
+mod found;
 mod knot;
 mod laws;
 #[cfg(test)]

@@ -4,7 +4,7 @@ use Rattle.std.specs.Prelude.{slice_index_or}
 use Rattle.std.proofs.lemmas.Bool.{cases_eq, cases_lt}
 use Rattle.std.proofs.lemmas.List.{get_or_default}
 use Rattle.run_record.specs.declared.entry.Entry.{Entry}
-use Rattle.run_laws.specs.Moments.{moments, items}
+use Rattle.run_laws.specs.Moments.{Item, moments, items}
 use Rattle.run_laws.specs.HappensBefore.{HappensBefore}
 use Rattle.run_laws.specs.Accesses.{Access, Conflict, end_of}
 use Rattle.offline_audit.specs.declared.order.EventName.{EventName}
@@ -13,7 +13,7 @@ use Rattle.offline_audit.specs.declared.access.Kind.{Kind}
 use Rattle.offline_audit.specs.declared.access.Made.{Made}
 use Rattle.offline_audit.specs.declared.group.Group.{Group}
 use Rattle.offline_audit.specs.declared.order.Order.{Order}
-use Rattle.offline_audit.specs.Orders.{IsOrderOf}
+use Rattle.offline_audit.specs.Orders.{IsOrderOf, TellsOrder}
 use Rattle.offline_audit.specs.Pairs.{IsRacingPair, pair_of}
 use Rattle.offline_audit.specs.Kinds.{IsMade, KindsConflict}
 use Rattle.offline_audit.specs.Chains.{position_of, IsEvent, ComesBefore, AreOrdered}
@@ -75,7 +75,7 @@ module _ (granule_of : ℕ → Option ℕ) where
 
   module _ (entries : List Entry) where
     racing : (ka kb : Kind) (x y : EventName) → IsMade entries (made_of ka x) → IsMade entries (made_of kb y) → ka.place ≤ kb.place → KindsConflict granule_of ka kb →
-        (ComesBefore entries x y → ⊥) → (ComesBefore entries y x → ⊥) → IsRacingPair granule_of entries ka.place kb.place
+        (ComesBefore (items (moments entries)) entries x y → ⊥) → (ComesBefore (items (moments entries)) entries y x → ⊥) → IsRacingPair granule_of entries ka.place kb.place
     racing ka kb x y mx my l k before after =
         let sx = stands_at entries (made_of ka x) mx in
         let sy = stands_at entries (made_of kb y) my in
@@ -127,7 +127,7 @@ module _ (granule_of : ℕ → Option ℕ) where
 
     -- of two groups in either order
     settled : (groups : List Group) (found : List Pair) → AreFound granule_of entries groups (length groups) found → (a b : Group) → Contains groups a → Contains groups b →
-        KindsConflict granule_of a.kind b.kind → Contains found (pair_of a.kind.place b.kind.place) ⊎ AreOrdered entries a.names b.names
+        KindsConflict granule_of a.kind b.kind → Contains found (pair_of a.kind.place b.kind.place) ⊎ AreOrdered (items (moments entries)) entries a.names b.names
     settled groups found are a b (i, li, ea) (j, lj, eb) k = elim (cases_lt i j) [
       | inl l ↦
           subst (λ (z : Group). IsSettled granule_of entries z b found) ea
@@ -181,17 +181,17 @@ module _ (granule_of : ℕ → Option ℕ) where
 -- what is gathered, grouped and compared, put together
 pub exact : (granule_of : ℕ → Option ℕ) (entries : List Entry) (order : Order) (made slice : List Made) (groups shown : List Group) (found : List Pair) →
     IsOrderOf entries order → slice ≡ made → shown ≡ groups → ((m : Made) → Contains made m ↔ IsMade entries m) → ((m : Made) → IsIn groups m ↔ Contains slice m) →
-    ((es : List Entry) → IsOrderOf es order → ((m : Made) → Contains slice m → IsEvent es m.name) → AreChains es groups) →
-    ((es : List Entry) → IsOrderOf es order → AreChains es shown → AreFound granule_of es shown (length shown) found) →
+    ((h : ℕ → Item) (es : List Entry) → TellsOrder h es order → ((m : Made) → Contains slice m → IsEvent h es m.name) → AreChains h es groups) →
+    ((es : List Entry) → IsOrderOf es order → AreChains (items (moments es)) es shown → AreFound granule_of es shown (length shown) found) →
     (p q : ℕ) → Contains found (record { low = p; high = q }) ↔ IsRacingPair granule_of entries p q
 exact granule_of entries order made slice groups shown found is same same' gathered grouped chains finds p q =
     let in_made : (m : Made) → IsIn groups m → IsMade entries m = λ m i. (gathered m).0 (subst (λ (ms : List Made). Contains ms m) same ((grouped m).0 i)) in
     let in_groups : (m : Made) → IsMade entries m → IsIn groups m = λ m i. (grouped m).1 (subst (λ (ms : List Made). Contains ms m) (sym same) ((gathered m).1 i)) in
-    let known : (m : Made) → Contains slice m → IsEvent entries m.name =
+    let known : (m : Made) → Contains slice m → IsEvent (items (moments entries)) entries m.name =
     λ m i. (stands_at entries m ((gathered m).0 (subst (λ (ms : List Made). Contains ms m) same i))).event in
-    let finds' : AreChains entries groups → AreFound granule_of entries groups (length groups) found =
-    subst (λ (gs : List Group). AreChains entries gs → AreFound granule_of entries gs (length gs) found) same' (finds entries is) in
-    let are : AreFound granule_of entries groups (length groups) found = finds' (chains entries is known) in (
+    let finds' : AreChains (items (moments entries)) entries groups → AreFound granule_of entries groups (length groups) found =
+    subst (λ (gs : List Group). AreChains (items (moments entries)) entries gs → AreFound granule_of entries gs (length gs) found) same' (finds entries is) in
+    let are : AreFound granule_of entries groups (length groups) found = finds' (chains (items (moments entries)) entries is known) in (
       λ i. let (a, b, ia, ib, r) = are.sound (record { low = p; high = q }) i in of_race granule_of entries groups in_made (record { low = p; high = q }) a b ia ib r,
       λ r. is_found granule_of entries groups found in_groups are p q r,
     )

@@ -16,18 +16,19 @@ use Rattle.offline_audit.specs.declared.order.Order.{Order}
 use Rattle.offline_audit.specs.declared.access.Kind.{Kind}
 use Rattle.offline_audit.specs.declared.access.Made.{Made}
 use Rattle.offline_audit.specs.declared.group.Group.{Group}
-use Rattle.offline_audit.specs.Orders.{IsOrderOf}
+use Rattle.run_laws.specs.Moments.{Item}
+use Rattle.offline_audit.specs.Orders.{TellsOrder}
 use Rattle.offline_audit.specs.Chains.{IsEvent, ComesBefore, IsChain}
 use Rattle.offline_audit.specs.Groups.{IsIn, addresses, AreChains, AreWithOne}
 
 -- one more event after a chain's last one
-pub chain_push : (entries : List Entry) (names : List EventName) (name : EventName) (d : EventName) → IsEvent entries name →
-    (0 < length names → ComesBefore entries (get_or names (length names - 1) d) name) → IsChain entries names → IsChain entries (names ++ name ∷ [])
-chain_push entries names name d event last chain = record {
-  events = All-push (IsEvent entries) names name chain.events event;
-  follow = all_pairs_push (ComesBefore entries) names name chain.follow (λ k e l.
-      let end : ComesBefore entries (get_or names (length names - 1) e) name =
-      subst (λ (x : EventName). ComesBefore entries x name) (get_or_default names (length names - 1) d e (omega arith)) (last (omega arith)) in
+pub chain_push : (h : ℕ → Item) (entries : List Entry) (names : List EventName) (name : EventName) (d : EventName) → IsEvent h entries name →
+    (0 < length names → ComesBefore h entries (get_or names (length names - 1) d) name) → IsChain h entries names → IsChain h entries (names ++ name ∷ [])
+chain_push h entries names name d event last chain = record {
+  events = All-push (IsEvent h entries) names name chain.events event;
+  follow = all_pairs_push (ComesBefore h entries) names name chain.follow (λ k e l.
+      let end : ComesBefore h entries (get_or names (length names - 1) e) name =
+      subst (λ (x : EventName). ComesBefore h entries x name) (get_or_default names (length names - 1) d e (omega arith)) (last (omega arith)) in
       elim (cases_eq k (length names - 1)) [
         | inl q ↦ rw q end
         | inr n ↦ Then (chain.follow k (length names - 1) e (omega arith) (omega arith)) end
@@ -35,16 +36,16 @@ chain_push entries names name d event last chain = record {
 }
 
 -- an event after the last one, which the chain gives
-pub chain_on : (entries : List Entry) (names : List EventName) (last name : EventName) → Some last ≡ slice_get names (length names - 1) →
-    (IsEvent entries last → ComesBefore entries last name) → IsEvent entries name → IsChain entries names → IsChain entries (names ++ name ∷ [])
-chain_on entries names last name is before event chain =
+pub chain_on : (h : ℕ → Item) (entries : List Entry) (names : List EventName) (last name : EventName) → Some last ≡ slice_get names (length names - 1) →
+    (IsEvent h entries last → ComesBefore h entries last name) → IsEvent h entries name → IsChain h entries names → IsChain h entries (names ++ name ∷ [])
+chain_on h entries names last name is before event chain =
     let within = slice_get_within names (length names - 1) last (sym is) in
     let at : get_or names (length names - 1) last ≡ last = get_or_from_slice_get names (length names - 1) last last (sym is) in
-    let known : IsEvent entries last = subst (IsEvent entries) at (chain.events (length names - 1) last within) in
-    chain_push entries names name last event (λ l. subst (λ (x : EventName). ComesBefore entries x name) (sym at) (before known)) chain
+    let known : IsEvent h entries last = subst (IsEvent h entries) at (chain.events (length names - 1) last within) in
+    chain_push h entries names name last event (λ l. subst (λ (x : EventName). ComesBefore h entries x name) (sym at) (before known)) chain
 
-pub chain_one : (entries : List Entry) (name : EventName) → IsEvent entries name → IsChain entries (name ∷ [])
-chain_one entries name event = record {
+pub chain_one : (h : ℕ → Item) (entries : List Entry) (name : EventName) → IsEvent h entries name → IsChain h entries (name ∷ [])
+chain_one h entries name event = record {
   events = λ k d l. let z : k ≡ 0 = omega arith in rw z event;
   follow = λ i j d l m. absurd (omega arith);
 }
@@ -73,7 +74,7 @@ addresses-push xs g = map-append (λ (x : Group). x.kind.addr) xs (g ∷ [])
 module _ (order : Order) (m : Made) where
   -- one more access in the last group
   pub with_joined : (rest : List Group) (g : Group) → g.kind ≡ m.kind →
-      ((entries : List Entry) → IsOrderOf entries order → IsEvent entries m.name → IsChain entries g.names → IsChain entries (g.names ++ m.name ∷ [])) →
+      ((h : ℕ → Item) (entries : List Entry) → TellsOrder h entries order → IsEvent h entries m.name → IsChain h entries g.names → IsChain h entries (g.names ++ m.name ∷ [])) →
       AreWithOne order m (rest ++ g ∷ []) (rest ++ record { kind = g.kind; names = g.names ++ m.name ∷ [] } ∷ [])
   with_joined rest g kind chain =
       let h : Group = record { kind = g.kind; names = g.names ++ m.name ∷ [] } in
@@ -97,9 +98,9 @@ module _ (order : Order) (m : Made) where
                 (is_in_push rest h x).1 (inr (k, n))
           ],
         );
-        chains = λ entries is event old.
-            let split = All-pop (λ (z : Group). IsChain entries z.names) (rest ++ g ∷ []) rest (Some g) refl old in
-            All-push (λ (z : Group). IsChain entries z.names) rest h split.0 (chain entries is event split.1);
+        chains = λ its entries is event old.
+            let split = All-pop (λ (z : Group). IsChain its entries z.names) (rest ++ g ∷ []) rest (Some g) refl old in
+            All-push (λ (z : Group). IsChain its entries z.names) rest h split.0 (chain its entries is event split.1);
         addrs = inl (addresses-push rest h ∙ sym (addresses-push rest g));
       }
 
@@ -122,7 +123,7 @@ module _ (order : Order) (m : Made) where
                 ))
           ],
         );
-        chains = λ entries is event chains. All-push (λ (z : Group). IsChain entries z.names) old h chains (chain_one entries m.name event);
+        chains = λ its entries is event chains. All-push (λ (z : Group). IsChain its entries z.names) old h chains (chain_one its entries m.name event);
         addrs = inr (addresses-push old h);
       }
     where
@@ -133,14 +134,14 @@ module _ (order : Order) (m : Made) where
 -- The groups are those of the first n accesses.
 pub record AreGrouped (order : Order) (made : List Made) (n : ℕ) (groups : List Group) : Type 0 where
   pub all : (x : Made) → IsIn groups x ↔ Contains (take n made) x
-  pub chains : (entries : List Entry) → IsOrderOf entries order → ((x : Made) → Contains made x → IsEvent entries x.name) → AreChains entries groups
+  pub chains : (h : ℕ → Item) (entries : List Entry) → TellsOrder h entries order → ((x : Made) → Contains made x → IsEvent h entries x.name) → AreChains h entries groups
   pub rising : IsNonDecreasing (addresses groups)
   pub below : (k : ℕ) (d : Made) → n ≤ k → k < length made → All (λ (a : ℕ). a ≤ (slice_index_or made k d).kind.addr) (addresses groups)
 
 pub none_grouped : (order : Order) (made : List Made) (groups : List Group) → groups ≡ [] → AreGrouped order made 0 groups
 none_grouped order made groups empty = rw empty (record {
   all = λ x. (λ p. absurd (let l = p.1.1 in omega arith), λ p. absurd (let l = p.1 in omega arith));
-  chains = λ entries is events k d l. absurd (omega arith);
+  chains = λ h entries is events k d l. absurd (omega arith);
   rising = λ i j d l m. absurd (omega arith);
   below = λ k d l m i e b. absurd (omega arith);
 })
@@ -165,7 +166,7 @@ group_more order made n d old new by_addr l one so =
           | inr e ↦ (one.all x).1 (inr (sym e))
         ],
       );
-      chains = λ entries is events. one.chains entries is (events m (Contains-get_or made n d l)) (so.chains entries is events);
+      chains = λ h entries is events. one.chains h entries is (events m (Contains-get_or made n d l)) (so.chains h entries is events);
       rising = elim one.addrs [
         | inl e ↦ subst IsNonDecreasing (sym e) so.rising
         | inr e ↦ subst IsNonDecreasing (sym e) (IsNonDecreasingBy-push (λ (x : ℕ). x) (addresses old) m.kind.addr so.rising (last_address (addresses old) m.kind.addr here))

@@ -14,3 +14,5 @@ pub mod NameLaw
 pub mod FoundLaw
 pub mod SamePairs
 pub mod WalkedEntries
+pub mod FirstLaw
+pub mod NamePlaces

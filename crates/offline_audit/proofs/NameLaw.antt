@@ -128,7 +128,7 @@ kind_access tid _ kind is = absurd (no_some kind is)
 
 -- The access of the history stands at the position of its name.
 pub record StandsAt (entries : List Entry) (m : Made) : Type 0 where
-  pub event : IsEvent entries m.name
+  pub event : IsEvent (items (moments entries)) entries m.name
   pub tid : ℕ
   pub access : Access
   pub made : MakesAccess (moments entries) (position_of entries m.name) tid access
@@ -145,7 +145,11 @@ stands_at entries m im =
     let (a, is, kind) = kind_access e.tid im.made.event m.kind im.made.kind in
     let read : slice_index_or e.events x im.made.event ≡ event_from a = get_or_from_slice_get e.events x im.made.event im.made.event im.made.is ∙ is in
     record {
-      event = record { entry = e; listed = im.listed; within = w; place = place };
+      event = record {
+        at = record { entry = e; listed = im.listed; within = w; place = place };
+        event = slice_index_or e.events x im.made.event;
+        made = ap (items (moments entries)) place ∙ makes entries k e l im.listed x im.made.event w;
+      };
       tid = e.tid;
       access = a;
       made = ap (items (moments entries)) place ∙ (makes entries k e l im.listed x im.made.event w ∙ ap (λ (v : Event). Does e.tid v) read);

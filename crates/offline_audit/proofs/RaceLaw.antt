@@ -8,6 +8,7 @@ use Rattle.std.proofs.lemmas.List.Sorted.{IsNonDecreasingBy-drop}
 use Rattle.std.proofs.Math.ListN.{get_or-map}
 use Rattle.run_record.specs.declared.entry.Entry.{Entry}
 use Rattle.report_text.specs.declared.pair.Pair.{Pair}
+use Rattle.run_laws.specs.Moments.{moments, items}
 use Rattle.offline_audit.specs.declared.access.Kind.{Kind}
 use Rattle.offline_audit.specs.declared.group.Group.{Group}
 use Rattle.offline_audit.specs.Pairs.{pair_of}
@@ -81,7 +82,7 @@ module _ (granule_of : ℕ → Option ℕ) where
   -- a pair is found
   pub one_more : (entries : List Entry) (a b : Group) (old new : List Pair) →
       ((x : Pair) → Contains new x ↔ (Contains old x ⊎ (x ≡ pair_of a.kind.place b.kind.place))) →
-      KindsConflict granule_of a.kind b.kind → AreApart entries a.names b.names → IsCompared granule_of entries a b old new
+      KindsConflict granule_of a.kind b.kind → AreApart (items (moments entries)) entries a.names b.names → IsCompared granule_of entries a b old new
   one_more entries a b old new is k apart = record {
     kept = λ x c. (is x).1 (inl c);
     sound = λ x c. elim ((is x).0 c) [ inl o ↦ inl o | inr e ↦ inr (record { conflict = k; apart = apart; is = e }) ];

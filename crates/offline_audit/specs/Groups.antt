@@ -5,7 +5,8 @@ use Rattle.offline_audit.specs.declared.order.Order.{Order}
 use Rattle.report_text.specs.declared.pair.Pair.{Pair}
 use Rattle.offline_audit.specs.declared.access.Made.{Made}
 use Rattle.offline_audit.specs.declared.group.Group.{Group}
-use Rattle.offline_audit.specs.Orders.{IsOrderOf}
+use Rattle.run_laws.specs.Moments.{Item, moments, items}
+use Rattle.offline_audit.specs.Orders.{TellsOrder}
 use Rattle.offline_audit.specs.Pairs.{pair_of}
 use Rattle.offline_audit.specs.Kinds.{KindsConflict}
 use Rattle.offline_audit.specs.Chains.{IsEvent, IsChain, AreApart, AreOrdered}
@@ -19,25 +20,25 @@ abbrev pub addresses : List Group → List ℕ
 addresses groups = map (λ (g : Group). g.kind.addr) groups
 
 -- in each group the accesses come one after another
-abbrev pub AreChains : List Entry → List Group → Type 0
-AreChains entries groups = All (λ (g : Group). IsChain entries g.names) groups
+abbrev pub AreChains : (ℕ → Item) → List Entry → List Group → Type 0
+AreChains h entries groups = All (λ (g : Group). IsChain h entries g.names) groups
 
 -- The new groups have one more access.
 pub record AreWithOne (order : Order) (m : Made) (old new : List Group) : Type 0 where
   pub all : (x : Made) → IsIn new x ↔ (IsIn old x ⊎ (x ≡ m))
-  pub chains : (entries : List Entry) → IsOrderOf entries order → IsEvent entries m.name → AreChains entries old → AreChains entries new
+  pub chains : (h : ℕ → Item) (entries : List Entry) → TellsOrder h entries order → IsEvent h entries m.name → AreChains h entries old → AreChains h entries new
   pub addrs : (addresses new ≡ addresses old) ⊎ (addresses new ≡ addresses old ++ m.kind.addr ∷ [])
 
 -- the pair is that of the places of two groups which conflict and have accesses that are in no order
 pub record IsRaceOf (granule_of : ℕ → Option ℕ) (entries : List Entry) (a b : Group) (pair : Pair) : Type 0 where
   pub conflict : KindsConflict granule_of a.kind b.kind
-  pub apart : AreApart entries a.names b.names
+  pub apart : AreApart (items (moments entries)) entries a.names b.names
   pub is : pair ≡ pair_of a.kind.place b.kind.place
 
 -- if the groups conflict, the pair of their places is found, or all their accesses are in order
 abbrev pub IsSettled : (ℕ → Option ℕ) → List Entry → Group → Group → List Pair → Type 0
 IsSettled granule_of entries a b found =
-    KindsConflict granule_of a.kind b.kind → Contains found (pair_of a.kind.place b.kind.place) ⊎ AreOrdered entries a.names b.names
+    KindsConflict granule_of a.kind b.kind → Contains found (pair_of a.kind.place b.kind.place) ⊎ AreOrdered (items (moments entries)) entries a.names b.names
 
 -- After the pairs that were found before, that of the two groups is found, if it is one, and no other.
 pub record IsCompared (granule_of : ℕ → Option ℕ) (entries : List Entry) (a b : Group) (old new : List Pair) : Type 0 where

@@ -8,3 +8,4 @@ pub mod Chains
 pub mod Kinds
 pub mod Groups
 pub mod Texts
+pub mod Firsts

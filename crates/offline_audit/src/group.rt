@@ -1,11 +1,12 @@
 // The accesses of a history in groups.
-ghost use Rattle.std.specs.Prelude.{◌≡◌, ◌↔◌, ◌++◌, ◌∷◌, [], List, Contains, IfOk, OnOk};
+ghost use Rattle.std.specs.Prelude.{◌≡◌, ◌↔◌, ℕ, ◌++◌, ◌∷◌, [], List, Contains, IfOk, OnOk};
 ghost use Rattle.std.specs.Bool.{OnTrue};
 ghost use Rattle.std.specs.List.Sorted.{IsNonDecreasing, IsNonDecreasingBy};
 ghost use Rattle.run_record.specs.declared.entry.Entry.{Entry};
+ghost use Rattle.run_laws.specs.Moments.{Item};
 ghost use Rattle.offline_audit.specs.declared.access.Made.{Made};
 ghost use Rattle.offline_audit.specs.declared.group.Group.{Group};
-ghost use Rattle.offline_audit.specs.Orders.{IsOrderOf};
+ghost use Rattle.offline_audit.specs.Orders.{TellsOrder};
 ghost use Rattle.offline_audit.specs.Kinds.{IsMade};
 ghost use Rattle.offline_audit.specs.Chains.{IsEvent, IsChain};
 ghost use Rattle.offline_audit.specs.Groups.{IsIn, AreChains, AreWithOne, addresses};
@@ -26,9 +27,9 @@ pub(crate) struct Group {
 /// Whether the access goes on the group: it is of its kind and comes after the group's last one.
 fn goes_on(order: &Order, group: &Group, made: &Made) -> bool
     ensures kind { OnTrue result (group.now.kind ≡ made.now.kind) }
-    ensures chain { OnTrue result ((entries : List Entry) → IsOrderOf entries order.now
-        → IsEvent entries made.now.name → IsChain entries group.now.names
-        → IsChain entries (group.now.names ++ made.now.name ∷ [])) }
+    ensures chain { OnTrue result ((h : ℕ → Item) (entries : List Entry) → TellsOrder h entries order.now
+        → IsEvent h entries made.now.name → IsChain h entries group.now.names
+        → IsChain h entries (group.now.names ++ made.now.name ∷ [])) }
 {
     if group.kind != made.kind {
         return false;
@@ -81,8 +82,8 @@ fn add_access(
 pub(crate) fn grouped(alloc: Global, order: &Order, made: &[Made]) -> Result<Vec<Group>, NoMemory>
     requires { IsNonDecreasingBy (λ m. m.kind.addr) made.now }
     ensures all { IfOk result (λ groups. (m : Made) → IsIn groups.items m ↔ Contains made.now m) }
-    ensures chains { IfOk result (λ groups. (entries : List Entry) → IsOrderOf entries order.now
-        → ((m : Made) → Contains made.now m → IsEvent entries m.name) → AreChains entries groups.items) }
+    ensures chains { IfOk result (λ groups. (h : ℕ → Item) (entries : List Entry) → TellsOrder h entries order.now
+        → ((m : Made) → Contains made.now m → IsEvent h entries m.name) → AreChains h entries groups.items) }
     ensures rising { IfOk result (λ groups. IsNonDecreasing (addresses groups.items)) }
 {
     let mut groups = Vec::new(alloc);

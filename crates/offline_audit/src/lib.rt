@@ -16,6 +16,7 @@
 
 mod access;
 mod clock;
+mod earliest;
 mod group;
 mod heard;
 mod known;

@@ -186,7 +186,7 @@ impl Order {
     }
 
     /// Whether the first event comes before the second.
-    fn tells(&self, first: EventName, second: EventName) -> bool
+    pub(crate) fn tells(&self, first: EventName, second: EventName) -> bool
         ensures { (h : ℕ → Item) (entries : List Entry) (i j : ℕ) (v w : Event) → TellsOrder h entries self.now
             → (a : IsAt entries first i) → h i ≡ Does a.entry.tid v
             → (b : IsAt entries second j) → h j ≡ Does b.entry.tid w

@@ -4,6 +4,7 @@ ghost use Rattle.std.specs.List.Sorted.{IsNonDecreasing};
 ghost use Rattle.elf_image.specs.File.{granule_of};
 ghost use Rattle.run_record.specs.declared.entry.Entry.{Entry};
 ghost use Rattle.offline_audit.specs.Orders.{IsOrderOf};
+ghost use Rattle.run_laws.specs.Moments.{moments, items};
 ghost use Rattle.offline_audit.specs.Pairs.{IsRacingPair, AreRisingPairs};
 ghost use Rattle.offline_audit.specs.Kinds.{HasGranule, KindsConflict};
 ghost use Rattle.offline_audit.specs.Chains.{IsChain};
@@ -61,7 +62,7 @@ fn compare(
     requires { AreRisingPairs found.old.items }
     ensures rising { OnOk result (AreRisingPairs found.new.items) }
     ensures settled { OnOk result ((entries : List Entry) → IsOrderOf entries order.now
-        → IsChain entries one.now.names → IsChain entries other.now.names
+        → IsChain (items (moments entries)) entries one.now.names → IsChain (items (moments entries)) entries other.now.names
         → IsCompared (granule_of image.now) entries one.now other.now found.old.items found.new.items) }
 {
     if !do_conflict(image, &one.kind, &other.kind) {
@@ -89,7 +90,7 @@ fn compare_with(
     requires by_address { IsNonDecreasing (addresses later.now) }
     ensures rising { OnOk result (AreRisingPairs found.new.items) }
     ensures settled { OnOk result ((entries : List Entry) → IsOrderOf entries order.now
-        → IsChain entries one.now.names → AreChains entries later.now
+        → IsChain (items (moments entries)) entries one.now.names → AreChains (items (moments entries)) entries later.now
         → AreCompared (granule_of image.now) entries one.now later.now (length later.now) found.old.items found.new.items) }
 {
     for other in later {
@@ -111,7 +112,7 @@ fn compare_all(
     requires { IsNonDecreasing (addresses groups.now) }
     ensures rising { IfOk result (λ found. AreRisingPairs found.items) }
     ensures found { IfOk result (λ found. (entries : List Entry) → IsOrderOf entries order.now
-        → AreChains entries groups.now
+        → AreChains (items (moments entries)) entries groups.now
         → AreFound (granule_of image.now) entries groups.now (length groups.now) found.items) }
 {
     let mut found = Vec::new(alloc);

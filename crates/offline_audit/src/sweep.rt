@@ -1,27 +1,28 @@
 // Whether two chains of events are in order.
-ghost use Rattle.std.specs.Prelude.{◌≡◌, ◌↔◌, List, IsTrue};
+ghost use Rattle.std.specs.Prelude.{◌≡◌, ◌↔◌, ℕ, List, IsTrue};
 ghost use Rattle.std.specs.Bool.{OnTrue, OnFalse};
 ghost use Rattle.run_record.specs.declared.entry.Entry.{Entry};
-ghost use Rattle.offline_audit.specs.Orders.{IsOrderOf};
+ghost use Rattle.run_laws.specs.Moments.{Item};
+ghost use Rattle.offline_audit.specs.Orders.{TellsOrder};
 ghost use Rattle.offline_audit.specs.Chains.{IsEvent, ComesBefore, IsChain, AreApart, AreOrdered};
 
 use crate::order::{EventName, Order};
 
 /// Whether the first event happens before the second.
 pub(crate) fn precedes(order: &Order, first: EventName, second: EventName) -> bool
-    ensures { (entries : List Entry) → IsOrderOf entries order.now → IsEvent entries first
-        → IsEvent entries second → IsTrue result ↔ ComesBefore entries first second }
+    ensures { (h : ℕ → Item) (entries : List Entry) → TellsOrder h entries order.now → IsEvent h entries first
+        → IsEvent h entries second → IsTrue result ↔ ComesBefore h entries first second }
 {
-    order.before(first, second)
+    order.tells(first, second)
 }
 
 /// Whether an event of the one chain and one of the other are in no order. An event that happens before one of the other
 /// chain happens before all later ones, so one passage tells.
 pub(crate) fn are_apart(order: &Order, xs: &[EventName], ys: &[EventName]) -> bool
-    ensures apart { OnTrue result ((entries : List Entry) → IsOrderOf entries order.now
-        → IsChain entries xs.now → IsChain entries ys.now → AreApart entries xs.now ys.now) }
-    ensures ordered { OnFalse result ((entries : List Entry) → IsOrderOf entries order.now
-        → IsChain entries xs.now → IsChain entries ys.now → AreOrdered entries xs.now ys.now) }
+    ensures apart { OnTrue result ((h : ℕ → Item) (entries : List Entry) → TellsOrder h entries order.now
+        → IsChain h entries xs.now → IsChain h entries ys.now → AreApart h entries xs.now ys.now) }
+    ensures ordered { OnFalse result ((h : ℕ → Item) (entries : List Entry) → TellsOrder h entries order.now
+        → IsChain h entries xs.now → IsChain h entries ys.now → AreOrdered h entries xs.now ys.now) }
 {
     let mut i = 0;
     let mut j = 0;

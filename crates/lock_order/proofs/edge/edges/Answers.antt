@@ -2,7 +2,7 @@ use Rattle.std.proofs.Common.{◌≡◌, ℕ, List, suc, ◌+◌, arith, take, s
 use Rattle.std.proofs.lemmas.List.{take_all}
 use Rattle.run_record.specs.declared.entry.Entry.{Entry}
 use Rattle.run_laws.specs.Moments.{moments}
-use Rattle.lock_order.specs.Held.{Follows}
+use Rattle.lock_order.specs.Found.{Follows}
 use Rattle.lock_order.proofs.EdgeLaws.{follows-nothing, follows-entry, are_edges}
 use Rattle.lock_order.proofs.edge.edges.Goals as goal
 

@@ -9,5 +9,5 @@ returns-in-Some-clause-chain c =
     let names = c.args.group.now.names in
     let last = c.in-Some.last.now in
     let is : Some last ≡ slice_get names (length names - 1) = rw c.as_slice.ensures at c.in-Some.ensures.value in
-    OnTrue_from c.precedes.result _ (λ t entries order event chain.
-    chain_on entries names last c.args.made.now.name is (λ known. (c.precedes.ensures entries order known event).0 t) event chain)
+    OnTrue_from c.precedes.result _ (λ t h entries order event chain.
+    chain_on h entries names last c.args.made.now.name is (λ known. (c.precedes.ensures h entries order known event).0 t) event chain)

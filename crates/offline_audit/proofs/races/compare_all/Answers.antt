@@ -1,6 +1,7 @@
 use Rattle.std.proofs.Common.{◌≡◌, ◌+◌, ◌-◌, ℕ, List, length, take, drop, sym, subst, arith}
 use Rattle.std.proofs.lemmas.List.Elements.{All-drop}
 use Rattle.elf_image.specs.File.{granule_of}
+use Rattle.run_laws.specs.Moments.{moments, items}
 use Rattle.offline_audit.specs.declared.group.Group.{Group}
 use Rattle.offline_audit.specs.Chains.{IsChain}
 use Rattle.offline_audit.specs.Groups.{AreChains, AreCompared, AreFound}
@@ -20,9 +21,9 @@ loop-n-preserved c =
     let are = later_are groups (n + 1) in (
       c.in_ok-compare_with.ensures.rising,
       λ entries order chains.
-          let chain : IsChain entries one.names = subst (λ (g : Group). IsChain entries g.names) (sym c.index-groups-n.is) (chains n one c.loop-n-test.true) in
-          let later : AreChains entries (take (length groups - (n + 1)) (drop (n + 1) groups)) =
-          subst (AreChains entries) (sym are) (All-drop (λ (g : Group). IsChain entries g.names) (n + 1) groups chains) in
+          let chain : IsChain (items (moments entries)) entries one.names = subst (λ (g : Group). IsChain (items (moments entries)) entries g.names) (sym c.index-groups-n.is) (chains n one c.loop-n-test.true) in
+          let later : AreChains (items (moments entries)) entries (take (length groups - (n + 1)) (drop (n + 1) groups)) =
+          subst (AreChains (items (moments entries)) entries) (sym are) (All-drop (λ (g : Group). IsChain (items (moments entries)) entries g.names) (n + 1) groups chains) in
           let compared = c.in_ok-compare_with.ensures.settled entries order chain later in
           found_more (granule_of c.args.image.now) entries groups n one old new c.loop-n-test.true c.index-groups-n.is
           (subst (λ (gs : List Group). AreCompared (granule_of c.args.image.now) entries one gs (length gs) old new) are compared)

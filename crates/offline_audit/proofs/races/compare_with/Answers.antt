@@ -1,5 +1,6 @@
 use Rattle.std.proofs.Common.{◌≡◌, ℕ, List, length, sym, subst, arith}
 use Rattle.elf_image.specs.File.{granule_of}
+use Rattle.run_laws.specs.Moments.{moments, items}
 use Rattle.offline_audit.specs.declared.group.Group.{Group}
 use Rattle.offline_audit.specs.Chains.{IsChain}
 use Rattle.offline_audit.specs.Groups.{AreCompared}
@@ -18,7 +19,7 @@ loop-other-preserved c =
     let other : Group = c.other-item.result in (
       c.in_ok-compare.ensures.rising,
       λ entries order p q.
-          let chain : IsChain entries other.names = subst (λ (g : Group). IsChain entries g.names) (sym c.other-item.is) (q n other c.loop-other-test.true) in
+          let chain : IsChain (items (moments entries)) entries other.names = subst (λ (g : Group). IsChain (items (moments entries)) entries g.names) (sym c.other-item.is) (q n other c.loop-other-test.true) in
           compared_more (granule_of c.args.image.now) entries c.args.one.now later n other c.args.found.now.items c.loop-other.found.items
           c.compare.new.found.items c.loop-other-test.true c.other-item.is (c.in_ok-compare.ensures.settled entries order p chain) (c.loop-other.invariant.1 entries order p q),
     )

@@ -19,9 +19,9 @@ passage-preserved-then-precedes c =
     let m : j < length ys = c.if-j-ys.true in (
       c.passage.invariant.0,
       omega arith,
-      λ entries order p q.
-          pass_other (ComesBefore entries) (λ x y z r s. Then r s) xs ys i j none none l m (c.passage.invariant.2 entries order p q) p.follow
-          ((c.precedes.ensures entries order (q.events j none m) (p.events i none l)).0 c.if-precedes.true),
+      λ h entries order p q.
+          pass_other (ComesBefore h entries) (λ x y z r s. Then r s) xs ys i j none none l m (c.passage.invariant.2 h entries order p q) p.follow
+          ((c.precedes.ensures h entries order (q.events j none m) (p.events i none l)).0 c.if-precedes.true),
     )
 
 pub passage-preserved : goal.passage-preserved
@@ -34,9 +34,9 @@ passage-preserved c =
     let m : j < length ys = c.if-j-ys.true in (
       omega arith,
       c.passage.invariant.1,
-      λ entries order p q.
-          pass_one (ComesBefore entries) (λ x y z r s. Then r s) xs ys i j none none l m (c.passage.invariant.2 entries order p q) q.follow
-          ((c.precedes-else-precedes.ensures entries order (p.events i none l) (q.events j none m)).0 c.if-precedes-2.true),
+      λ h entries order p q.
+          pass_one (ComesBefore h entries) (λ x y z r s. Then r s) xs ys i j none none l m (c.passage.invariant.2 h entries order p q) q.follow
+          ((c.precedes-else-precedes.ensures h entries order (p.events i none l) (q.events j none m)).0 c.if-precedes-2.true),
     )
 
 pub returns-else-precedes-2-clause-apart : goal.returns-else-precedes-2-clause-apart
@@ -47,17 +47,17 @@ returns-else-precedes-2-clause-apart c =
     let j = c.passage.j in
     let l : i < length xs = c.passage-test.true in
     let m : j < length ys = c.if-j-ys.true in
-    λ entries order p q. record {
+    λ h entries order p q. record {
       x = get_or xs i none;
       y = get_or ys j none;
       x_in = Contains-get_or xs i none l;
       y_in = Contains-get_or ys j none m;
       not_before = λ r.
-          let t = (c.precedes-else-precedes.ensures entries order (p.events i none l) (q.events j none m)).1 r in
+          let t = (c.precedes-else-precedes.ensures h entries order (p.events i none l) (q.events j none m)).1 r in
           let f = c.if-precedes-2.false in
           cc;
       not_after = λ r.
-          let t = (c.precedes.ensures entries order (q.events j none m) (p.events i none l)).1 r in
+          let t = (c.precedes.ensures h entries order (q.events j none m) (p.events i none l)).1 r in
           let f = c.if-precedes.false in
           cc;
     }

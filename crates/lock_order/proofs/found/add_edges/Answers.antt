@@ -1,14 +1,15 @@
 use Rattle.std.proofs.Common.{◌≡◌, ℕ, suc, ◌+◌, ◌&&◌, ◌==◌, false, Option, Some, None, cond, List, ◌<◌, arith, length, get_or, sym, ap, ◌∙◌, subst}
 use Rattle.std.specs.BTreeMap.{BTreeMap}
 use Rattle.std.proofs.lemmas.List.{get_or_default, take_all}
-use Rattle.lock_order.specs.declared.held.Held.{Held}
-use Rattle.lock_order.specs.Held.{locks_by, first_by, or_else}
+use Rattle.kept_locks.specs.declared.held.Held.{Held}
+use Rattle.kept_locks.specs.Held.{locks_by}
+use Rattle.lock_order.specs.Found.{first_by, or_else}
 use Rattle.lock_order.specs.Edges.{taker_by}
 use Rattle.run_laws.specs.Moments.{Does}
 use Rattle.run_record.specs.declared.event.Event.TheVariants.{Lock}
 use Rattle.lock_order.proofs.EdgeLaws.{with_first, edge_of_other, edge_to_itself, edge_of_own}
-use Rattle.lock_order.proofs.held.add_edges.Goals as goal
-use Rattle.lock_order.proofs.held.add_edges.Goals.{then-keeper-tid+then-lock-to+in_ok-add_edge, else-keeper-tid, else-keeper-tid-via-then-keeper-tid+else-lock-to, else-keeper-tid-via-else-keeper-tid}
+use Rattle.lock_order.proofs.found.add_edges.Goals as goal
+use Rattle.lock_order.proofs.found.add_edges.Goals.{then-keeper-tid+then-lock-to+in_ok-add_edge, else-keeper-tid, else-keeper-tid-via-then-keeper-tid+else-lock-to, else-keeper-tid-via-else-keeper-tid}
 
 abbrev nobody : Held
 nobody = record { tid = 0; lock = record { addr = 0; read = false } }

@@ -1,7 +1,7 @@
 use Rattle.std.proofs.Common.{◌≡◌, drop, false}
 use Rattle.std.specs.List.{list_any}
-use Rattle.lock_order.specs.Held.{is_held}
-use Rattle.lock_order.proofs.held.give_back.Given as goal
+use Rattle.kept_locks.specs.Held.{is_held}
+use Rattle.kept_locks.proofs.held.give_back.Given as goal
 
 -- none of the locks behind is it
 abbrev pub invariant-loop-i : goal.invariant-loop-i

@@ -1,7 +1,7 @@
 use Rattle.std.proofs.Common.{◌≡◌, ℕ, Bool}
-use Rattle.lock_order.specs.Held.{first_by, or_else}
+use Rattle.lock_order.specs.Found.{first_by, or_else}
 use Rattle.lock_order.proofs.EdgeLaws.{with_first}
-use Rattle.lock_order.proofs.held.add_edges.Given as goal
+use Rattle.lock_order.proofs.found.add_edges.Given as goal
 
 abbrev pub invariant-loop-keeper : goal.invariant-loop-keeper
 invariant-loop-keeper l =

@@ -1,8 +1,8 @@
 use Rattle.std.proofs.Common.{ℕ, List, ◌++◌}
 use Rattle.run_laws.specs.Moments.{Moment}
-use Rattle.lock_order.specs.Held.{Follows}
+use Rattle.lock_order.specs.Found.{Follows}
 use Rattle.lock_order.proofs.EdgeLaws.{some_moments}
-use Rattle.lock_order.proofs.held.note_entry.Given as goal
+use Rattle.lock_order.proofs.found.note_entry.Given as goal
 
 abbrev pub invariant-loop-event : goal.invariant-loop-event
 invariant-loop-event l =

@@ -9,8 +9,8 @@ use Rattle.run_record.specs.declared.event.Event.{Event}
 use Rattle.run_record.specs.declared.event.Event.TheVariants.{Lock, Unlock}
 use Rattle.run_laws.specs.Stacks.{without_last, is_lock, locks_after}
 use Rattle.trace_parts.proofs.LockLaws.{without_last-none}
-use Rattle.lock_order.specs.declared.held.Held.{Held}
-use Rattle.lock_order.specs.Held.{locks_by, is_held, GoOnBy}
+use Rattle.kept_locks.specs.declared.held.Held.{Held}
+use Rattle.kept_locks.specs.Held.{locks_by, is_held, GoOnBy}
 
 abbrev pub lock_of : Held → KeptLock
 lock_of h = h.lock

@@ -1,6 +1,6 @@
 use Rattle.std.proofs.Common.{sym}
 use Rattle.lock_order.proofs.EdgeLaws.{pair_added}
-use Rattle.lock_order.proofs.held.add_edge.Goals as goal
+use Rattle.lock_order.proofs.found.add_edge.Goals as goal
 
 pub returns-in_ok-insert : goal.returns-in_ok-insert
 returns-in_ok-insert c =

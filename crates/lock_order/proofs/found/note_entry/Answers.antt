@@ -3,9 +3,9 @@ use Rattle.std.proofs.lemmas.List.{get_or_default}
 use Rattle.run_record.specs.declared.event.Event.{Event}
 use Rattle.run_record.specs.declared.event.Event.TheVariants.{Begin}
 use Rattle.run_laws.specs.Moments.{Moment}
-use Rattle.lock_order.specs.Held.{Follows}
+use Rattle.lock_order.specs.Found.{Follows}
 use Rattle.lock_order.proofs.EdgeLaws.{some_moments, all_moments, follows-note, follows-more}
-use Rattle.lock_order.proofs.held.note_entry.Goals as goal
+use Rattle.lock_order.proofs.found.note_entry.Goals as goal
 
 pub loop-event-init : goal.loop-event-init
 loop-event-init c = λ h i f.
@@ -17,11 +17,11 @@ loop-event-preserved c = λ h i f.
     let k = c.loop-event.event-index in
     let event : Event = get_or e.events k Begin in
     let next : k + 1 ≡ suc k = omega arith in
-    let locks = rw c.as_slice-event-items.ensures at c.in_ok-note.ensures.locks in
-    let edges = rw c.as_slice-event-items.ensures at c.in_ok-note.ensures.edges in
+    let locks = rw c.as_slice-event-items.ensures at c.in_ok-note_event.ensures.locks in
+    let edges = rw c.as_slice-event-items.ensures at c.in_ok-note_event.ensures.edges in
     let l = rw c.as_slice-event-items.ensures at c.loop-event-test.true in
-    subst (λ (n : ℕ). Follows (h ++ some_moments i e n) c.note.new.held.items c.note.new.found) (sym next)
-    (follows-more h i e k event c.loop-event.held.items c.note.new.held.items c.loop-event.found c.note.new.found l
+    subst (λ (n : ℕ). Follows (h ++ some_moments i e n) c.note_event.new.held.items c.note_event.new.found) (sym next)
+    (follows-more h i e k event c.loop-event.held.items c.note_event.new.held.items c.loop-event.found c.note_event.new.found l
     (get_or_default e.events k Begin event l) locks edges
     (c.loop-event.invariant h i f))
 

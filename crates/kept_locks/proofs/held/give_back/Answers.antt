@@ -1,10 +1,10 @@
 use Rattle.std.proofs.Common.{◌≡◌, ℕ, suc, true, false, List, drop, arith, ◌-◌, sym, ◌∙◌, subst}
 use Rattle.std.specs.List.{list_any}
-use Rattle.lock_order.specs.declared.held.Held.{Held}
-use Rattle.lock_order.specs.Held.{is_held, GoOnBy}
+use Rattle.kept_locks.specs.declared.held.Held.{Held}
+use Rattle.kept_locks.specs.Held.{is_held, GoOnBy}
 use Rattle.run_record.specs.declared.event.Event.TheVariants.{Unlock}
-use Rattle.lock_order.proofs.HeldLaws.{given_back, none_given}
-use Rattle.lock_order.proofs.held.give_back.Goals as goal
+use Rattle.kept_locks.proofs.HeldLaws.{given_back, none_given}
+use Rattle.kept_locks.proofs.held.give_back.Goals as goal
 
 pub returns-then-is_it : goal.returns-then-is_it
 returns-then-is_it c =

@@ -1,7 +1,7 @@
 use Rattle.std.proofs.Common.{arith}
 use Rattle.std.proofs.lemmas.List.{length-map}
-use Rattle.lock_order.proofs.HeldLaws.{taken_kept, lock_of, by}
-use Rattle.lock_order.proofs.held.take.Goals as goal
+use Rattle.kept_locks.proofs.HeldLaws.{taken_kept, lock_of, by}
+use Rattle.kept_locks.proofs.held.take.Goals as goal
 
 pub returns-in_ok-push : goal.returns-in_ok-push
 returns-in_ok-push c =

@@ -1,26 +1,11 @@
 -- What is known while the edges of a history are collected.
-use Rattle.std.specs.Prelude.{◌≡◌, ℕ, ◌<◌, ◌==◌, if◌then◌else◌, List, map, filter, Bool, ◌&&◌, Option, Some, None}
+use Rattle.std.specs.Prelude.{◌≡◌, ℕ, ◌<◌, List, length, Option, Some, None}
 use Rattle.std.specs.BTreeMap.{BTreeMap, get}
-use Rattle.run_record.specs.declared.report.KeptLock.{KeptLock}
-use Rattle.run_record.specs.declared.event.Event.{Event}
 use Rattle.run_laws.specs.Moments.{Moment}
-use Rattle.run_laws.specs.Stacks.{locks_after, is_lock}
-use Rattle.run_laws.specs.Present.{locks_now}
-use Rattle.lock_order.specs.declared.held.Held.{Held}
+use Rattle.kept_locks.specs.declared.held.Held.{Held}
+use Rattle.kept_locks.specs.Held.{AreKept}
 use Rattle.lock_order.specs.declared.edge.Edge.{Edge}
 use Rattle.lock_order.specs.Edges.{taker, pair_order}
-
--- the locks that thread t keeps
-abbrev pub locks_by : List Held → ℕ → List KeptLock
-locks_by held t = map (λ (h : Held). h.lock) (filter (λ (h : Held). h.tid == t) held)
-
--- the lock of thread t, of that address and kind
-abbrev pub is_held : ℕ → ℕ → Bool → Held → Bool
-is_held t addr read h = (h.tid == t) && is_lock addr read h.lock
-
--- the locks of the other threads stay, and those of thread t go on by the event
-abbrev pub GoOnBy : ℕ → Event → List Held → List Held → Type 0
-GoOnBy t event old new = (u : ℕ) → locks_by new u ≡ (if t == u then locks_after (locks_by old u) event else locks_by old u)
 
 -- the thread that takes `to` first, where it keeps `from`
 abbrev pub first_by : BTreeMap (ℕ × ℕ) ℕ → ℕ → ℕ → Option ℕ
@@ -42,5 +27,5 @@ IsFirst h from to (Some t) = (place : ℕ) × (taker h place from to ≡ Some t)
 
 -- the locks and the edges are those of the history
 pub record Follows (h : List Moment) (held : List Held) (found : BTreeMap (ℕ × ℕ) ℕ) : Type 0 where
-  pub locks : (t : ℕ) → locks_by held t ≡ locks_now h t
+  pub locks : AreKept h (length h) held
   pub first : (from to : ℕ) → IsFirst h from to (first_by found from to)
