@@ -3,6 +3,7 @@ mod audits;
 mod closure;
 mod counted;
 mod endings;
+mod gates;
 mod line_tables;
 mod locks;
 mod made;
