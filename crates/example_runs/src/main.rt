@@ -9,22 +9,26 @@ use std::alloc::{AllocError, Global};
 use std::io;
 use std::io::Write;
 use std::rt::Files as FileSystem;
-use tool_ports::{Files, HostFiles, MemorySink};
-use tsanrun_cli::tool_step;
+use std::sync::Wait;
+use std::thread::Threads;
+use tool_ports::{Files, HostFiles, MemorySink, OpenGate};
+use tsanrun_cli::tool;
 
-/// The executables, and an option of the command for each run, or none.
-const RUNS: [(&str, &str); 11] = [
-    ("counter.elf", ""),
-    ("counter_mutex.elf", ""),
-    ("message.elf", ""),
-    ("message_relaxed.elf", ""),
-    ("bounded_queue.elf", ""),
-    ("bounded_queue_mistake.elf", ""),
-    ("use_after_free.elf", ""),
-    ("lazy.elf", ""),
-    ("lazy_right.elf", ""),
-    ("sometimes.elf", ""),
-    ("sometimes.elf", "--quantum=100"),
+/// Each run: its command, an executable, and an option or none. By `run` only those whose bytes no schedule changes.
+const RUNS: [(&str, &str, &str); 13] = [
+    ("step", "counter.elf", ""),
+    ("step", "counter_mutex.elf", ""),
+    ("step", "message.elf", ""),
+    ("step", "message_relaxed.elf", ""),
+    ("step", "bounded_queue.elf", ""),
+    ("step", "bounded_queue_mistake.elf", ""),
+    ("step", "use_after_free.elf", ""),
+    ("step", "lazy.elf", ""),
+    ("step", "lazy_right.elf", ""),
+    ("step", "sometimes.elf", ""),
+    ("step", "sometimes.elf", "--quantum=100"),
+    ("run", "counter_mutex.elf", ""),
+    ("run", "message.elf", ""),
 ];
 
 /// How many bytes a run may put on a sink; one that puts more ends with status 6.
@@ -38,10 +42,15 @@ struct Written {
     status: u8,
 }
 
-/// The words `step FILE`, and the option behind them.
-fn words_of(alloc: Global, file: &str, option: &str) -> Result<Vec<String>, AllocError> {
+/// The command, the file, and the option behind them.
+fn words_of(
+    alloc: Global,
+    command: &str,
+    file: &str,
+    option: &str,
+) -> Result<Vec<String>, AllocError> {
     let mut words = Vec::new(alloc);
-    words.push(String::from_str(alloc, "step")?)?;
+    words.push(String::from_str(alloc, command)?)?;
     words.push(String::from_str(alloc, file)?)?;
     if !option.is_empty() {
         words.push(String::from_str(alloc, option)?)?;
@@ -49,16 +58,26 @@ fn words_of(alloc: Global, file: &str, option: &str) -> Result<Vec<String>, Allo
     Ok(words)
 }
 
-fn run<F: Files>(
+fn run<R: Threads + Wait + Sync, F: Files>(
+    rt: &R,
     alloc: Global,
+    command: &str,
     file: &str,
     option: &str,
     files: &mut F,
 ) -> Result<Written, AllocError> {
-    let words = words_of(alloc, file, option)?;
+    let words = words_of(alloc, command, file, option)?;
     let mut output = MemorySink::new(alloc, ROOM, &[])?;
     let mut reports = MemorySink::new(alloc, ROOM, &[])?;
-    let ended = tool_step(alloc, words.as_slice(), files, &mut output, &mut reports);
+    let ended = tool(
+        rt,
+        alloc,
+        words.as_slice(),
+        files,
+        &mut output,
+        &mut reports,
+        &OpenGate,
+    );
     Ok(Written {
         output,
         reports,
@@ -66,20 +85,26 @@ fn run<F: Files>(
     })
 }
 
-fn print<W: Write>(to: &mut W, file: &str, option: &str, written: &Written) -> io::Result<()> {
+fn print<W: Write>(
+    to: &mut W,
+    command: &str,
+    file: &str,
+    option: &str,
+    written: &Written,
+) -> io::Result<()> {
     let space = if option.is_empty() { "" } else { " " };
-    writeln!(to, "words: step {file}{space}{option}\noutput:")?;
+    writeln!(to, "words: {command} {file}{space}{option}\noutput:")?;
     to.write_all(written.output.bytes())?;
     writeln!(to, "reports:")?;
     to.write_all(written.reports.bytes())?;
     writeln!(to, "status: {}\n", written.status)
 }
 
-fn run_all<R: FileSystem + Print + AllocGlobal>(rt: &R) -> io::Result<()> {
+fn run_all<R: FileSystem + Print + AllocGlobal + Threads + Wait + Sync>(rt: &R) -> io::Result<()> {
     let mut files = HostFiles::new(rt, rt.alloc());
-    for (file, option) in RUNS {
-        let written = run(rt.alloc(), file, option, &mut files)?;
-        print(&mut io::writer(rt), file, option, &written)?;
+    for (command, file, option) in RUNS {
+        let written = run(rt, rt.alloc(), command, file, option, &mut files)?;
+        print(&mut io::writer(rt), command, file, option, &written)?;
     }
     Ok(())
 }
